@@ -1,0 +1,5 @@
+pub mod Sums
+pub mod Fronts
+pub mod Rules
+pub mod Moves
+pub mod Told

@@ -1,0 +1,4 @@
+pub mod Fields
+pub mod Scalars
+pub mod Sources
+pub mod Words

@@ -1,0 +1,2 @@
+pub mod MemberLists
+pub mod Kept

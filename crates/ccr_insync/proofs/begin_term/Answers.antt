@@ -1,0 +1,9 @@
+use Rattle.std.proofs.Common.{arith}
+use Rattle.ccr_insync.specs.Members.{as_term_begins}
+use Rattle.ccr_insync.proofs.MemberLists.{map_turn}
+use Rattle.ccr_insync.proofs.begin_term.Goals as goal
+
+pub loop-m-preserved : goal.loop-m-preserved
+loop-m-preserved c =
+    map_turn (as_term_begins c.args.primary c.args.count) c.args.members.now c.loop-m.members c.loop-m.m-index _ c.as_term_begins.result
+    (omega arith) (omega arith) c.loop-m.invariant c.as_term_begins.ensures

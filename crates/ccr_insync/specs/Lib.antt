@@ -1,0 +1,2 @@
+pub mod InSyncSet
+pub mod Members

@@ -1,0 +1,3 @@
+pub mod UtfTests
+pub mod FieldLaws
+pub mod OperationLaws

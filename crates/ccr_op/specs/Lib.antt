@@ -1,0 +1,5 @@
+pub mod Ids
+pub mod Operation
+pub mod Fields
+pub mod Spelling
+pub mod Reading

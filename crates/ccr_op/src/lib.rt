@@ -1,0 +1,31 @@
+//! The operations of a replicated shard, and the plain types that every other part names: texts with
+//! their bounds, counts, terms and times.
+#![tactic(auto)]
+
+mod bad_op;
+mod decoding;
+mod encoding;
+mod ids;
+mod kinds;
+mod operation;
+mod texts;
+
+pub use bad_op::BadOp;
+pub use decoding::decode;
+pub use encoding::encode;
+pub use ids::{DocId, LeaseId};
+pub use operation::{Kind, Op};
+pub use texts::{Body, Name};
+
+/// A number of operations that come before a place: the least sequence number that is not yet there.
+/// A checkpoint, as the Elastic reference on sequence numbers has it, is a count less 1.
+pub type Count = u64;
+
+/// A primary term: it starts at 1 and rises by 1 with each promotion.
+pub type Term = u64;
+
+/// A reading of a clock, or a span of time, in milliseconds.
+pub type Millis = u64;
+
+#[cfg(test)]
+mod tests;

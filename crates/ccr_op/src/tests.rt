@@ -1,0 +1,114 @@
+use super::*;
+use std::alloc::Global;
+use std::test::Fail;
+
+/// An index operation of number 0, term 1 and version 1, with the id `a` and the source `{"n":1}`.
+const INDEX_BYTES: [u8; 39] = [
+    1, 0, 0, 0, 0, 0, 0, 0, 0, 0, 0, 0, 0, 0, 0, 0, 1, 0, 0, 0, 0, 0, 0, 0, 1, 0, 1, 0x61, 0, 0, 0,
+    7, 0x7b, 0x22, 0x6e, 0x22, 0x3a, 0x31, 0x7d,
+];
+
+/// A delete of the greatest number, term and version, with the id `é`.
+const DELETE_BYTES: [u8; 29] = [
+    2, 255, 255, 255, 255, 255, 255, 255, 255, 255, 255, 255, 255, 255, 255, 255, 255, 255, 255,
+    255, 255, 255, 255, 255, 255, 0, 2, 0xc3, 0xa9,
+];
+
+/// A no-op of number 258 and term 3.
+const NO_OP_BYTES: [u8; 17] = [3, 0, 0, 0, 0, 0, 0, 1, 2, 0, 0, 0, 0, 0, 0, 0, 3];
+
+/// The name of what decoding answers.
+fn answer(alloc: Global, bytes: &[u8]) -> &'static str {
+    match decode(alloc, bytes) {
+        Ok(_) => "ok",
+        Err(BadOp::Short) => "short",
+        Err(BadOp::Kind) => "kind",
+        Err(BadOp::Length) => "length",
+        Err(BadOp::Utf8) => "utf8",
+        Err(BadOp::Memory) => "memory",
+    }
+}
+
+#[test]
+fn the_three_kinds_have_the_stated_bytes(rt: HostRuntime) -> Result<(), Fail> {
+    for bytes in [
+        INDEX_BYTES.as_slice(),
+        DELETE_BYTES.as_slice(),
+        NO_OP_BYTES.as_slice(),
+    ] {
+        let mut longer = bytes.to_vec(rt.alloc())?;
+        longer.push(9)?;
+        let (op, size) = decode(rt.alloc(), &longer)?;
+        assert_eq!(rt; size, bytes.len());
+        assert_eq!(rt; op.size(), bytes.len() as u64);
+        let mut made = Vec::new(rt.alloc());
+        made.push(7)?;
+        encode(&op, &mut made)?;
+        assert_eq!(rt; made.len(), bytes.len() + 1);
+        assert_eq!(rt; &made[1..], bytes);
+    }
+    Ok(())
+}
+
+#[test]
+fn each_proper_prefix_is_short(rt: HostRuntime) {
+    for bytes in [
+        INDEX_BYTES.as_slice(),
+        DELETE_BYTES.as_slice(),
+        NO_OP_BYTES.as_slice(),
+    ] {
+        for end in 0..bytes.len() {
+            assert_eq!(rt; answer(rt.alloc(), &bytes[..end]), "short");
+        }
+    }
+}
+
+#[test]
+fn the_first_bad_field_is_named(rt: HostRuntime) -> Result<(), Fail> {
+    for kind in [0, 4, 16, 255] {
+        assert_eq!(rt; answer(rt.alloc(), &[kind]), "kind");
+    }
+    let mut bytes = INDEX_BYTES;
+    bytes[26] = 0;
+    assert_eq!(rt;
+        answer(rt.alloc(), &bytes[..27]),
+        "length",
+        "an id without bytes"
+    );
+    bytes[25] = 2;
+    bytes[26] = 1;
+    assert_eq!(rt;
+        answer(rt.alloc(), &bytes[..27]),
+        "length",
+        "an id of 513 bytes"
+    );
+    bytes[26] = 0;
+    assert_eq!(rt;
+        answer(rt.alloc(), &bytes),
+        "short",
+        "an id of 512 bytes that are not there"
+    );
+    let mut bytes = INDEX_BYTES;
+    bytes[27] = 0xff;
+    assert_eq!(rt; answer(rt.alloc(), &bytes[..28]), "utf8");
+    let mut bytes = INDEX_BYTES;
+    bytes[31] = 1;
+    assert_eq!(rt;
+        answer(rt.alloc(), &bytes[..32]),
+        "length",
+        "a source of 1 byte"
+    );
+    bytes[29] = 8;
+    assert_eq!(rt;
+        answer(rt.alloc(), &bytes[..32]),
+        "length",
+        "a source of 524,289 bytes"
+    );
+    bytes[31] = 0;
+    assert_eq!(rt;
+        answer(rt.alloc(), &bytes),
+        "short",
+        "a source of 524,288 bytes that are not there"
+    );
+    Ok(())
+}

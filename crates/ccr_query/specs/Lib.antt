@@ -1,0 +1,11 @@
+pub mod Answers
+pub mod Bools
+pub mod Codes
+pub mod Conditions
+pub mod Listed
+pub mod Nodes
+pub mod Queries
+pub mod Reading
+pub mod Sides
+pub mod Sorting
+pub mod TreeFalls

@@ -1,0 +1,9 @@
+pub mod Commands
+pub mod Answers
+pub mod Lines
+pub mod Reader
+pub mod Script
+pub mod Turns
+pub mod Stops
+pub mod Replay
+pub mod Codes

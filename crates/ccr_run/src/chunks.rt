@@ -1,0 +1,105 @@
+ghost use Rattle.std.specs.Prelude.{◌≡◌, ◌-◌, ◌<◌, ◌^◌, ◌↔◌, [], Ok, true, false, is_some, IsTrue, IfSome, IfNone, IfOk, OnOk, OnErr};
+ghost use Rattle.std.specs.Io.KnownBytes.{Consumes, IsAtEnd};
+ghost use Rattle.ccr_run.specs.Lines.{BreaksAt, EndsLine, GoesOn, IsPlain};
+
+use ccr_io::{Failed, Source};
+use std::alloc::{AllocError, Global};
+use std::marker::Model;
+
+/// How many bytes one call of the source is asked for.
+const CHUNK_BYTES: usize = 8192;
+
+const LINE_FEED: u8 = b'\n';
+
+/// The bytes that were read from a source and not yet given away.
+#[derive(Drop)]
+pub struct Chunk {
+    bytes: Vec<u8>,
+    start: usize,
+    end: usize,
+}
+
+impl Model for Chunk {
+    ghost use Rattle.std.specs.Prelude.{List, ℕ};
+    ghost use Rattle.ccr_run.specs.Reader.{IsChunk, part_of};
+
+    ghost Value = { List ℕ };
+
+    ghost view = { λ a. part_of a.bytes.items a.start a.end };
+
+    ghost invariant = { λ a. IsChunk a.bytes.items a.start a.end };
+}
+
+impl Chunk {
+    /// A chunk with no byte.
+    pub fn new(alloc: Global) -> Result<Self, AllocError>
+        ensures { IfOk result (λ chunk. chunk ≡ []) }
+    {
+        let bytes = vec![in alloc; 0u8; CHUNK_BYTES]?;
+        Ok(Chunk {
+            bytes,
+            start: 0,
+            end: 0,
+        })
+    }
+
+    /// Whether no byte is left.
+    pub fn is_empty(&self) -> bool
+        ensures { IsTrue result ↔ (self.now ≡ []) }
+    {
+        self.start == self.end
+    }
+
+    /// Reads further bytes into an empty chunk: none where the source is at its end.
+    pub fn refill<S: Source>(&mut self, from: &mut S) -> Result<(), Failed>
+        requires empty { self.old ≡ [] }
+        requires countable { S.faults from.old < 2 ^ 64 - 1 }
+        ensures bytes { OnOk result (Consumes (S.left from.old) (S.left from.new) self.new) }
+        ensures end { OnOk result (self.new ≡ [] → IsAtEnd (S.left from.new)) }
+        ensures kept { OnErr result (S.left from.new ≡ S.left from.old) }
+        ensures told { is_some (S.left from.new) ≡ is_some (S.left from.old) }
+        ensures quiet { OnOk result (S.faults from.new ≡ S.faults from.old) }
+        ensures rose { OnErr result (S.faults from.old < S.faults from.new) }
+    {
+        self.start = 0;
+        self.end = 0;
+        let count = from.read(self.bytes.as_mut_slice())?;
+        self.end = count;
+        Ok(())
+    }
+
+    /// Gives the bytes up to the next line feed, which is dropped, to the line, and says whether there
+    /// is one: else it gives all.
+    pub fn give(&mut self, line: &mut Vec<u8>) -> Result<bool, AllocError>
+        ensures ended { result ≡ Ok true → EndsLine self.old self.new line.old.items line.new.items }
+        ensures goes_on { result ≡ Ok false → GoesOn self.old self.new line.old.items line.new.items }
+    {
+        let read = &self.bytes[..self.end];
+        let part = &read[self.start..];
+        match feed_place(part) {
+            Some(count) => {
+                line.extend_from_slice(&part[..count])?;
+                self.start += count + 1;
+                Ok(true)
+            }
+            None => {
+                line.extend_from_slice(part)?;
+                self.start = self.end;
+                Ok(false)
+            }
+        }
+    }
+}
+
+// The place of the first line feed.
+fn feed_place(bytes: &[u8]) -> Option<usize>
+    ensures found { IfSome result (λ place. BreaksAt bytes.now place) }
+    ensures none { IfNone result (IsPlain bytes.now) }
+{
+    for (place, byte) in bytes.iter().enumerate() {
+        if *byte == LINE_FEED {
+            return Some(place);
+        }
+    }
+    None
+}

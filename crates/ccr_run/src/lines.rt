@@ -1,0 +1,158 @@
+ghost use Rattle.std.specs.Prelude.{◌≡◌, ℕ, ◌+◌, ◌-◌, ◌<◌, ◌≤◌, ◌^◌, ◌++◌, ◌∷◌, [], List, Option, length, take, drop, is_some, IfOk, IfErr, OnOk, OnErr, IfSome, IfNone, Some, Ok, Err, ◌≢◌, true, false};
+ghost use Rattle.std.specs.Io.KnownBytes.{Consumes, IsAtEnd};
+ghost use Rattle.ccr_run.specs.Lines.{FirstLineIsOver, GivesLine, HasLine, IsPlain, rest_of};
+
+use ccr_io::{Failed, Source};
+use std::alloc::{AllocError, Global};
+use std::marker::Model;
+
+use crate::chunks::Chunk;
+
+/// The most bytes of a line, without the line feed.
+pub const MOST_LINE_BYTES: usize = 1_048_576;
+
+/// The number of the first line that is one too many.
+pub const MOST_LINES: u64 = 16_777_216;
+
+/// A line of a source, without its line feed, under its number from 1 on.
+#[derive(Debug, Drop)]
+pub struct Line {
+    pub number: u64,
+    pub bytes: Vec<u8>,
+}
+
+/// Why a source gave no further line.
+#[derive(Clone, Copy, Debug, PartialEq, Eq)]
+pub enum LineFault {
+    /// The source failed.
+    Read,
+    /// The line has more bytes than a line may have.
+    TooLong,
+    /// The line is one too many.
+    TooMany,
+    Memory,
+}
+
+/// Reads the lines of a source one by one. It keeps one chunk and the line at hand, so its memory does
+/// not go with the source, and its work goes with the bytes read.
+#[derive(Drop)]
+pub struct Lines {
+    alloc: Global,
+    number: u64,
+    chunk: Chunk,
+}
+
+impl Model for Lines {
+    ghost use Rattle.ccr_run.specs.Reader.{Reader};
+
+    ghost Value = { Reader };
+
+    ghost view = { λ a. record { number = a.number; pending = a.chunk } };
+}
+
+impl Lines {
+    /// A reader that has given no line yet.
+    pub fn new(alloc: Global) -> Result<Self, AllocError>
+        ensures { IfOk result (λ lines. lines ≡ record { number = 0; pending = [] }) }
+    {
+        let chunk = Chunk::new(alloc)?;
+        Ok(Lines {
+            alloc,
+            number: 0,
+            chunk,
+        })
+    }
+
+    /// How many lines it gave.
+    pub fn number(&self) -> u64
+        ensures { result ≡ self.now.number }
+    {
+        self.number
+    }
+
+    /// The next line, or none at the end of the source. A line ends at a line feed or at the end of the
+    /// source; an empty rest behind the last line feed is no line. After an error nothing is said of what
+    /// further calls give.
+    pub fn next<S: Source>(&mut self, from: &mut S) -> Result<Option<Line>, LineFault>
+        requires countable { S.faults from.old < 2 ^ 64 - 1 }
+        requires numbered { self.old.number < MOST_LINES }
+        ensures line { IfOk result (λ found. IfSome found (λ line.
+            GivesLine (rest_of self.old.pending (S.left from.old)) (rest_of self.new.pending (S.left from.new)) line.bytes.items)) }
+        ensures number { IfOk result (λ found. IfSome found (λ line. (line.number ≡ self.old.number + 1) × (self.new.number ≡ line.number))) }
+        ensures bounds { IfOk result (λ found. IfSome found (λ line. (line.number < MOST_LINES) × (length line.bytes.items ≤ MOST_LINE_BYTES))) }
+        ensures end { IfOk result (λ found. IfNone found (IsAtEnd (rest_of self.old.pending (S.left from.old)))) }
+        ensures spent { IfOk result (λ found. IfNone found (IsAtEnd (S.left from.new))) }
+        ensures too_long { result ≡ Err LineFault.TooLong → FirstLineIsOver (rest_of self.old.pending (S.left from.old)) MOST_LINE_BYTES × (self.old.number + 1 < MOST_LINES) }
+        ensures too_many { result ≡ Err LineFault.TooMany → HasLine (rest_of self.old.pending (S.left from.old)) × (self.old.number + 1 ≡ MOST_LINES) }
+        ensures read { result ≡ Err LineFault.Read → S.faults from.old < S.faults from.new }
+        ensures quiet { result ≢ Err LineFault.Read → S.faults from.new ≡ S.faults from.old }
+        ensures told { is_some (S.left from.new) ≡ is_some (S.left from.old) }
+    {
+        if !has_more(&mut self.chunk, from)? {
+            return Ok(None);
+        }
+        if self.number + 1 == MOST_LINES {
+            return Err(LineFault::TooMany);
+        }
+        let bytes = read_line(self.alloc, &mut self.chunk, from)?;
+        self.number += 1;
+        Ok(Some(Line {
+            number: self.number,
+            bytes,
+        }))
+    }
+}
+
+// Reads on where no byte is at hand, and says whether one is then.
+fn has_more<S: Source>(chunk: &mut Chunk, from: &mut S) -> Result<bool, LineFault>
+    requires { S.faults from.old < 2 ^ 64 - 1 }
+    ensures rest { OnOk result (rest_of chunk.new (S.left from.new) ≡ rest_of chunk.old (S.left from.old)) }
+    ensures more { result ≡ Ok true → chunk.new ≢ [] }
+    ensures end { result ≡ Ok false → (chunk.new ≡ []) × IsAtEnd (S.left from.new) }
+    ensures told { is_some (S.left from.new) ≡ is_some (S.left from.old) }
+    ensures quiet { OnOk result (S.faults from.new ≡ S.faults from.old) }
+    ensures err { IfErr result (λ why. (why ≡ LineFault.Read) × (S.faults from.old < S.faults from.new)) }
+{
+    if !chunk.is_empty() {
+        return Ok(true);
+    }
+    match chunk.refill(from) {
+        Ok(()) => Ok(!chunk.is_empty()),
+        Err(Failed) => Err(LineFault::Read),
+    }
+}
+
+// Reads to the end of the line that the bytes at hand begin.
+fn read_line<S: Source>(alloc: Global, chunk: &mut Chunk, from: &mut S) -> Result<Vec<u8>, LineFault>
+    requires begun { chunk.old ≢ [] }
+    requires countable { S.faults from.old < 2 ^ 64 - 1 }
+    ensures line { IfOk result (λ bytes. GivesLine (rest_of chunk.old (S.left from.old)) (rest_of chunk.new (S.left from.new)) bytes.items) }
+    ensures bounds { IfOk result (λ bytes. length bytes.items ≤ MOST_LINE_BYTES) }
+    ensures too_long { result ≡ Err LineFault.TooLong → FirstLineIsOver (rest_of chunk.old (S.left from.old)) MOST_LINE_BYTES }
+    ensures some { result ≢ Err LineFault.TooMany }
+    ensures read { result ≡ Err LineFault.Read → S.faults from.old < S.faults from.new }
+    ensures quiet { result ≢ Err LineFault.Read → S.faults from.new ≡ S.faults from.old }
+    ensures told { is_some (S.left from.new) ≡ is_some (S.left from.old) }
+{
+    let mut bytes = Vec::new(alloc);
+    'pieces: for _ in 0..u64::MAX {
+        match chunk.give(&mut bytes) {
+            Ok(true) => {
+                if bytes.len() > MOST_LINE_BYTES {
+                    return Err(LineFault::TooLong);
+                }
+                return Ok(bytes);
+            }
+            Ok(false) => {
+                if bytes.len() > MOST_LINE_BYTES {
+                    return Err(LineFault::TooLong);
+                }
+            }
+            Err(AllocError) => return Err(LineFault::Memory),
+        }
+        if !has_more(chunk, from)? {
+            return Ok(bytes);
+        }
+    }
+    Err(LineFault::Memory)
+}

@@ -1,0 +1,82 @@
+ghost use Rattle.std.specs.Prelude.{ℕ, ◌≡◌, ◌≢◌, ◌↔◌, ◌-◌, ◌<◌, ◌^◌, [], Some, None, IsTrue, length, map, string_bytes};
+ghost use Rattle.std.specs.Io.KnownBytes.{IsAtEnd};
+ghost use Rattle.ccr_run.specs.Replay.{AreTrue, HasPlayed, IsReplay};
+ghost use Rattle.ccr_run.specs.declared.commands.BadLine.{BadLine};
+
+use ccr_io::{Sink, Source};
+use ccr_world::{World, every_place};
+use std::alloc::Global;
+
+use crate::playing::play;
+use crate::statuses::{Report, Status};
+
+/// Replays a script: reads its lines, does their commands in order in a shard world of one leader copy and
+/// one follower copy, and writes the answer line of each when it is done.
+///
+/// The words are to be exactly `replay`. The first failure of the source or the sink ends the run. The
+/// memory goes with the operations and the journal, and not with the script; the work goes with the bytes
+/// of the script and with what its commands read and move.
+pub fn replay<S: Source, K: Sink>(alloc: Global, words: &Vec<String>, script: &mut S, out: &mut K) -> Report
+    requires source { S.faults script.old < 2 ^ 64 - 1 }
+    requires sink { K.faults out.old < 2 ^ 64 - 1 }
+
+    // Words that are not the form: nothing is read or written.
+    ensures usage { result.status ≡ Status.Usage → ¬ IsReplay (map string_bytes words.now.items) }
+    ensures form { ¬ IsReplay (map string_bytes words.now.items) → result.status ≡ Status.Usage }
+    ensures unread { result.status ≡ Status.Usage → (S.left script.new ≡ S.left script.old) × (S.faults script.new ≡ S.faults script.old) }
+    ensures unwritten { result.status ≡ Status.Usage → (K.taken out.new ≡ K.taken out.old) × (K.faults out.new ≡ K.faults out.old) }
+
+    // Each fault has its cause.
+    ensures read_fault { result.status ≡ Status.ReadFault → S.faults script.old < S.faults script.new }
+    ensures write_fault { result.status ≡ Status.WriteFault → K.faults out.old < K.faults out.new }
+
+    // The whole script was done, or all before its first bad line.
+    ensures end { result.status ≡ Status.Done → IsAtEnd (S.left script.new) }
+    ensures done { result.status ≡ Status.Done →
+        HasPlayed (S.left script.old) None result.journals.items (K.taken out.old) (K.taken out.new) }
+    ensures bad { (line : ℕ) (why : BadLine) → result.status ≡ Status.BadLine line why →
+        HasPlayed (S.left script.old) (Some (record { line = line; why = why })) result.journals.items (K.taken out.old) (K.taken out.new) }
+    ensures cause { (line : ℕ) (why : BadLine) → result.status ≡ Status.BadLine line why → why ≢ BadLine.Memory }
+
+    // The journals, whatever the status.
+    ensures journals { AreTrue result.journals.items }
+    ensures one { result.status ≢ Status.Usage → result.status ≢ Status.OutOfMemory → length result.journals.items ≡ 1 }
+{
+    if !is_replay(words.as_slice()) {
+        return ended(alloc, Status::Usage);
+    }
+    let Ok(mut journals) = Vec::with_capacity(alloc, 1) else {
+        return ended(alloc, Status::OutOfMemory);
+    };
+    let Ok(mut world) = World::new(alloc) else {
+        return ended(alloc, Status::OutOfMemory);
+    };
+    every_place();
+    let status = play(alloc, &mut world, script, out);
+    let journal = world.into_journal();
+    match journals.push(journal) {
+        Ok(()) => Report { status, journals },
+        Err(_) => unreachable!(),
+    }
+}
+
+// A report without a journal.
+fn ended(alloc: Global, status: Status) -> Report
+    ensures status { result.status ≡ status }
+    ensures journals { result.journals.items ≡ [] }
+{
+    Report {
+        status,
+        journals: Vec::new(alloc),
+    }
+}
+
+// Whether the words are the program's form.
+fn is_replay(words: &[String]) -> bool
+    ensures { IsTrue result ↔ IsReplay (map string_bytes words.now) }
+{
+    match words {
+        [word] => word.as_str() == "replay",
+        _ => false,
+    }
+}

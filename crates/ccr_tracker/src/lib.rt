@@ -1,0 +1,204 @@
+//! Which sequence numbers a copy of a shard has processed: a set of numbers that mostly fills in
+//! order, with its local checkpoint.
+//!
+//! Elasticsearch marks each operation's sequence number as processed and works out the local
+//! checkpoint from it: the greatest number such that all numbers up to it are processed. Here a
+//! count stands for a checkpoint: it is one more, and so the least number that is not processed.
+#![tactic(auto)]
+
+ghost use Rattle.std.specs.Prelude.{◌≡◌, ℕ, ◌<◌, ◌==◌, ◌||◌, ◌&&◌, ◌↔◌, nat_lt, IsTrue, IfOk, OnOk, OnErr, if◌then◌else◌};
+ghost use Rattle.ccr_tracker.specs.Numbers.{AllBelow, HasGap, IsCanonical, IsLeastAbsent, OneForm, filled_below, has, kept_below, marked, no_numbers, risen};
+
+use std::alloc::{AllocError, Global};
+use std::collections::BTreeSet;
+use std::marker::Model;
+
+/// How many numbers from 0 on: one more than a checkpoint.
+pub type Count = u64;
+
+/// Whether `mark` found the number new.
+#[derive(Clone, Copy, Debug, PartialEq, Eq)]
+pub enum Marked {
+    New,
+    Seen,
+}
+
+/// A set of numbers below `u64::MAX`, kept as its least absent number and the numbers above that,
+/// so that numbers marked in order take no memory.
+#[derive(Drop)]
+pub struct Tracker {
+    count: Count,
+    above: BTreeSet<u64>,
+}
+
+impl Model for Tracker {
+    ghost use Rattle.ccr_tracker.specs.Numbers.{Numbers, IsTracked};
+
+    ghost Value = { Numbers };
+
+    ghost view = { λ t. record { count = t.count; above = t.above.keys } };
+
+    ghost invariant = { λ t. IsTracked t.count t.above.keys };
+}
+
+impl Tracker {
+    /// The empty set.
+    pub fn new(alloc: Global) -> Tracker
+        ensures { result ≡ no_numbers }
+    {
+        Tracker {
+            count: 0,
+            above: BTreeSet::new(alloc),
+        }
+    }
+
+    /// Adds a number, and says whether it was absent. A number that is the count takes no memory.
+    ///
+    /// Where the number is the count, the numbers above that follow on leave the ordered part; each
+    /// leaves it once. Otherwise the cost is a logarithm of how many numbers are above the count.
+    pub fn mark(&mut self, n: u64) -> Result<Marked, AllocError>
+        requires { n < u64.MAX }
+        ensures answer { IfOk result (λ marked. marked ≡ (if has self.old n then Marked.Seen else Marked.New)) }
+        ensures members { OnOk result ((k : ℕ) → has self.new k ≡ (has self.old k || (k == n))) }
+        ensures after { OnOk result (self.new ≡ marked self.old n) }
+        ensures err { OnErr result (self.new ≡ self.old) }
+    {
+        if self.has(n) {
+            return Ok(Marked::Seen);
+        }
+        if n == self.count {
+            self.count = rise(n + 1, &mut self.above);
+        } else {
+            self.above.insert(n)?;
+        }
+        Ok(Marked::New)
+    }
+
+    /// The least number that is absent: one more than the local checkpoint.
+    pub fn count(&self) -> Count
+        ensures value { result ≡ self.now.count }
+        ensures least { IsLeastAbsent (has self.now) result }
+        ensures canonical { IsCanonical self.now }
+    {
+        self.count
+    }
+
+    /// Whether the number is in the set. The cost is a logarithm of how many numbers are above the count.
+    pub fn has(&self, n: u64) -> bool
+        ensures { result ≡ has self.now n }
+    {
+        n < self.count || self.above.contains(&n)
+    }
+
+    /// Whether a number above the count is in the set.
+    pub fn gap(&self) -> bool
+        ensures { IsTrue result ↔ HasGap self.now }
+    {
+        !self.above.is_empty()
+    }
+
+    /// Adds all numbers below `n`, and no other.
+    pub fn fill_below(&mut self, n: Count) -> Result<(), AllocError>
+        ensures members { OnOk result ((k : ℕ) → has self.new k ≡ (has self.old k || nat_lt k n)) }
+        ensures after { OnOk result (self.new ≡ filled_below self.old n) }
+        ensures err { OnErr result (self.new ≡ self.old) }
+    {
+        self.count = rise(self.count.max(n), &mut self.above);
+        Ok(())
+    }
+
+    /// Forgets all numbers at or above `n`, and no other. It takes no memory, and its cost goes with
+    /// the numbers above the count that it forgets.
+    pub fn reset_from(&mut self, n: Count)
+        ensures members { (k : ℕ) → has self.new k ≡ (has self.old k && nat_lt k n) }
+        ensures after { self.new ≡ kept_below self.old n }
+    {
+        self.count = self.count.min(n);
+        while let Some(last) = self.above.last() {
+            if *last < n {
+                break;
+            }
+            let _ = self.above.pop_last();
+        }
+    }
+
+    /// An equal set.
+    pub fn copy(&self, alloc: Global) -> Result<Tracker, AllocError>
+        ensures { IfOk result (λ other. other ≡ self.now) }
+    {
+        let mut above = BTreeSet::new(alloc);
+        for n in &self.above {
+            above.insert(*n)?;
+        }
+        Ok(Tracker {
+            count: self.count,
+            above,
+        })
+    }
+}
+
+/// A law, and nothing that runs: sets that a tracker keeps are equal where they have the same numbers.
+pub fn equal_by_members()
+    ensures { OneForm }
+{}
+
+// The count of the set of all numbers below `count` and those of `above`, from which the numbers
+// below the new count are taken.
+fn rise(mut count: Count, above: &mut BTreeSet<u64>) -> Count
+    requires { AllBelow u64.MAX above.old.keys }
+    ensures { record { count = result; above = above.new.keys } ≡ risen count above.old.keys }
+{
+    while let Some(first) = above.first() {
+        let first = *first;
+        if first > count {
+            break;
+        }
+        if first == count {
+            count += 1;
+        }
+        let _ = above.pop_first();
+    }
+    count
+}
+
+#[cfg(test)]
+mod tests {
+    use super::*;
+    use std::test::Fail;
+
+    #[test]
+    fn fills_gaps(rt: HostRuntime) -> Result<(), Fail> {
+        let mut seen = Tracker::new(rt.alloc());
+        assert_eq!(rt; seen.count(), 0);
+        assert_eq!(rt; seen.mark(0)?, Marked::New);
+        assert_eq!(rt; seen.mark(3)?, Marked::New);
+        assert_eq!(rt; seen.mark(2)?, Marked::New);
+        assert_eq!(rt; seen.mark(3)?, Marked::Seen);
+        assert_eq!(rt; seen.count(), 1);
+        assert!(rt; seen.gap());
+        assert!(rt; seen.has(3));
+        assert!(rt; !seen.has(1));
+        assert_eq!(rt; seen.mark(1)?, Marked::New);
+        assert_eq!(rt; seen.count(), 4);
+        assert!(rt; !seen.gap());
+        Ok(())
+    }
+
+    #[test]
+    fn fills_and_forgets(rt: HostRuntime) -> Result<(), Fail> {
+        let mut seen = Tracker::new(rt.alloc());
+        assert_eq!(rt; seen.mark(5)?, Marked::New);
+        assert_eq!(rt; seen.mark(9)?, Marked::New);
+        seen.fill_below(5)?;
+        assert_eq!(rt; seen.count(), 6);
+        let kept = seen.copy(rt.alloc())?;
+        seen.reset_from(9);
+        assert_eq!(rt; seen.count(), 6);
+        assert!(rt; !seen.gap());
+        seen.reset_from(2);
+        assert_eq!(rt; seen.count(), 2);
+        assert_eq!(rt; kept.count(), 6);
+        assert!(rt; kept.has(9));
+        Ok(())
+    }
+}

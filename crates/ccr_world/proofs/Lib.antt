@@ -1,0 +1,11 @@
+pub mod Members
+pub mod Sameness
+pub mod Truth
+pub mod Theorem
+pub mod Numbering
+pub mod Recording
+pub mod Greatest
+pub mod Index
+pub mod Documents
+pub mod Holding
+pub mod FirstPath

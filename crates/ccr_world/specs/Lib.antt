@@ -1,0 +1,10 @@
+pub mod Request
+pub mod Sets
+pub mod State
+pub mod Rows
+pub mod Step
+pub mod Past
+pub mod Numbered
+pub mod Recorded
+pub mod Held
+pub mod Example

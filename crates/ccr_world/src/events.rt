@@ -1,0 +1,226 @@
+ghost use Rattle.std.specs.Prelude.{◌≡◌, ◌++◌, ◌∷◌, [], List, length, take, IfOk, OnOk, OnErr};
+ghost use Rattle.ccr_op.specs.Operation.{IsSourceText};
+ghost use Rattle.ccr_world.specs.Rows.{same_kind, same_operation, same_operations};
+
+use ccr_op::{Body, Count, DocId, Kind, Op};
+use std::alloc::{AllocError, Global};
+use std::marker::Model;
+
+/// Which copies an event is about.
+#[derive(Clone, Copy, Debug, PartialEq, Eq)]
+pub enum Side {
+    Leader,
+    Follower,
+}
+
+/// A list of operations, as a read brings them and a write takes them.
+#[derive(Debug, Drop)]
+pub struct Batch {
+    ops: Vec<Op>,
+}
+
+impl Model for Batch {
+    ghost use Rattle.std.specs.Prelude.{List};
+    ghost use Rattle.ccr_op.specs.Operation.{Operation};
+
+    ghost Value = { List Operation };
+
+    ghost view = { λ a. a.ops.items };
+}
+
+impl Batch {
+    /// The batch of these operations.
+    pub fn new(ops: Vec<Op>) -> Self
+        ensures { result ≡ ops.items }
+    {
+        Batch { ops }
+    }
+
+    /// The operations.
+    pub fn as_slice(&self) -> &[Op]
+        ensures { result.now ≡ self.now }
+    {
+        self.ops.as_slice()
+    }
+
+    /// Whether the other has the same operations in the same order.
+    pub fn is(&self, other: &Batch) -> bool
+        ensures { result ≡ same_operations self.now other.now }
+    {
+        same_ops(self.ops.as_slice(), other.ops.as_slice())
+    }
+
+    /// An equal batch.
+    pub fn copy(&self, alloc: Global) -> Result<Self, AllocError>
+        ensures { IfOk result (λ other. other ≡ self.now) }
+    {
+        let ops = copy_ops(alloc, self.ops.as_slice())?;
+        Ok(Batch { ops })
+    }
+}
+
+// Whether two operations do the same.
+fn same_kinds(a: &Kind, b: &Kind) -> bool
+    ensures { result ≡ same_kind a.now b.now }
+{
+    match (a, b) {
+        (Kind::Index { id, body }, Kind::Index { id: other, body: text }) => id == other && body.is(text),
+        (Kind::Delete { id }, Kind::Delete { id: other }) => id == other,
+        (Kind::NoOp, Kind::NoOp) => true,
+        _ => false,
+    }
+}
+
+// Whether two operations are equal.
+fn same_op(a: &Op, b: &Op) -> bool
+    ensures { result ≡ same_operation a.now b.now }
+{
+    a.seq() == b.seq()
+        && a.term() == b.term()
+        && a.version() == b.version()
+        && same_kinds(a.kind(), b.kind())
+}
+
+// Whether two lists have the same operations in the same order.
+fn same_ops(a: &[Op], b: &[Op]) -> bool
+    ensures { result ≡ same_operations a.now b.now }
+{
+    if a.len() != b.len() {
+        return false;
+    }
+    for i in 0..a.len() {
+        if !same_op(&a[i], &b[i]) {
+            return false;
+        }
+    }
+    true
+}
+
+/// Equal operations, in the same order.
+pub(crate) fn copy_ops(alloc: Global, ops: &[Op]) -> Result<Vec<Op>, AllocError>
+    ensures { IfOk result (λ copies. copies.items ≡ ops.now) }
+{
+    let mut copies = Vec::with_capacity(alloc, ops.len())?;
+    for op in ops {
+        let copied = op.copy(alloc)?;
+        copies.push(copied)?;
+    }
+    Ok(copies)
+}
+
+/// What a client asks to have written: the source of the document of an id.
+/// The source has 2 to 524,288 bytes.
+#[derive(Debug, Drop)]
+pub struct WriteRequest {
+    id: DocId,
+    body: Body,
+}
+
+impl Model for WriteRequest {
+    ghost use Rattle.ccr_op.specs.Operation.{IsSourceText};
+    ghost use Rattle.ccr_world.specs.Request.{Request};
+
+    ghost Value = { Request };
+
+    ghost view = { λ a. record { id = a.id; body = a.body } };
+
+    ghost invariant = { λ a. IsSourceText a.body };
+}
+
+impl WriteRequest {
+    /// A write of this source under this id.
+    pub fn new(id: DocId, body: Body) -> Self
+        requires { IsSourceText body }
+        ensures { result ≡ record { id = id; body = body } }
+    {
+        WriteRequest { id, body }
+    }
+
+    /// The id of the document.
+    pub fn id(&self) -> &DocId
+        ensures { result.now ≡ self.now.id }
+    {
+        &self.id
+    }
+
+    /// The source.
+    pub fn body(&self) -> &Body
+        ensures value { result.now ≡ self.now.body }
+        ensures bounds { IsSourceText self.now.body }
+    {
+        &self.body
+    }
+
+    /// An equal request.
+    pub fn copy(&self, alloc: Global) -> Result<Self, AllocError>
+        ensures { IfOk result (λ other. other ≡ self.now) }
+    {
+        let id = self.id.copy(alloc)?;
+        let body = self.body.copy(alloc)?;
+        Ok(WriteRequest { id, body })
+    }
+}
+
+/// A message between the leader and the follower.
+#[derive(Debug, Drop)]
+pub enum Message {
+    /// To the leader: asks for the operations from this number on.
+    ReadRequest { from: Count },
+    /// To the follower: the operations with the numbers from this one on.
+    ReadReply { from: Count, ops: Batch },
+}
+
+/// A read that waits at the leader for an operation of its number.
+#[derive(Clone, Copy, Debug, PartialEq, Eq)]
+pub struct Poll {
+    pub from: Count,
+}
+
+/// A batch that the follower is to apply, under its number.
+#[derive(Debug, Drop)]
+pub struct OutstandingWrite {
+    pub number: u64,
+    pub batch: Batch,
+}
+
+/// What happens in a shard world. A place counts from 0.
+#[derive(Debug, Drop)]
+pub enum Event {
+    /// A client writes a document at the leader.
+    Write { request: WriteRequest },
+    /// The message at a place of those in flight comes to its receiver.
+    Deliver { at: u64 },
+    /// The poll at a place, oldest first, is answered if there is something to answer.
+    Wake { at: u64 },
+    /// A copy of the batch of an outstanding write is taken.
+    Take { write: u64 },
+    /// The follower applies the batch of an outstanding write.
+    Apply { write: u64, batch: Batch },
+    /// A client searches all documents of a copy.
+    Search { side: Side },
+}
+
+impl Event {
+    /// An equal event.
+    pub fn copy(&self, alloc: Global) -> Result<Self, AllocError>
+        ensures { IfOk result (λ other. other ≡ self.now) }
+    {
+        match self {
+            Event::Write { request } => {
+                let request = request.copy(alloc)?;
+                Ok(Event::Write { request })
+            }
+            Event::Deliver { at } => Ok(Event::Deliver { at: *at }),
+            Event::Wake { at } => Ok(Event::Wake { at: *at }),
+            Event::Take { write } => Ok(Event::Take { write: *write }),
+            Event::Apply { write, batch } => {
+                let batch = batch.copy(alloc)?;
+                Ok(Event::Apply {
+                    write: *write,
+                    batch,
+                })
+            }
+            Event::Search { side } => Ok(Event::Search { side: *side }),
+        }
+    }
+}
