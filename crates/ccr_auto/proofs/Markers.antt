@@ -49,13 +49,13 @@ twice_marked s front back h more has =
     let other : drop (length f) s ≡ marker ++ b = at_mark s f b once.is in
     elim (cases_order (length front) (length f)) [
       | inl same ↦
-        let both : marker ++ back ≡ marker ++ b = sym mine ∙ (ap (λ n. drop n s) same ∙ other) in
-        let e : back ≡ b = sym (drop-append_seam marker back) ∙ (ap (drop (length marker)) both ∙ drop-append_seam marker b) in
-        let i : ℕ = more.0 in
-        let j : ℕ = more.1 in
-        let text : HasTextAt marker back i j = more.2.1 in
-        let low : i ≤ length b = let l : i ≤ j = more.3 in let m : j ≤ length back = more.4 in omega (arith, ap length e) in
-        once.only i low (drop j back) (ap (drop i) (sym e) ∙ text.split)
+          let both : marker ++ back ≡ marker ++ b = sym mine ∙ (ap (λ n. drop n s) same ∙ other) in
+          let e : back ≡ b = sym (drop-append_seam marker back) ∙ (ap (drop (length marker)) both ∙ drop-append_seam marker b) in
+          let i : ℕ = more.0 in
+          let j : ℕ = more.1 in
+          let text : HasTextAt marker back i j = more.2.1 in
+          let low : i ≤ length b = let l : i ≤ j = more.3 in let m : j ≤ length back = more.4 in omega (arith, ap length e) in
+          once.only i low (drop j back) (ap (drop i) (sym e) ∙ text.split)
       | inr apart ↦ elim apart [
         | inl below ↦ once.first (length front) below back mine
         | inr above ↦ none_earlier s front back h (length f) above b other

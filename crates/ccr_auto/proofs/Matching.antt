@@ -36,18 +36,18 @@ is_match-Matches (c ∷ p) [] h =
     elim (or_cases false ((c == 42) && some_end (is_match p) []) h) [
       | inl never ↦ cc
       | inr passes ↦
-        let parts = and_parts (c == 42) (some_end (is_match p) []) passes in
-        inr (eqb-true c 42 parts.0, [], [], refl, is_match-Matches p [] parts.1)
+          let parts = and_parts (c == 42) (some_end (is_match p) []) passes in
+          inr (eqb-true c 42 parts.0, [], [], refl, is_match-Matches p [] parts.1)
     ]
 is_match-Matches (c ∷ p) (x ∷ n) h =
     elim (or_cases ((x == c) && is_match p n) ((c == 42) && some_end (is_match p) (x ∷ n)) h) [
       | inl passes ↦
-        let parts = and_parts (x == c) (is_match p n) passes in
-        inl (n, ap (λ y. y ∷ n) (eqb-true x c parts.0), is_match-Matches p n parts.1)
+          let parts = and_parts (x == c) (is_match p n) passes in
+          inl (n, ap (λ y. y ∷ n) (eqb-true x c parts.0), is_match-Matches p n parts.1)
       | inr passes ↦
-        let parts = and_parts (c == 42) (some_end (is_match p) (x ∷ n)) passes in
-        let cut = some_end-back (is_match p) (x ∷ n) parts.1 in
-        inr (eqb-true c 42 parts.0, cut.0, cut.1, cut.2, is_match-Matches p cut.1 cut.3)
+          let parts = and_parts (c == 42) (some_end (is_match p) (x ∷ n)) passes in
+          let cut = some_end-back (is_match p) (x ∷ n) parts.1 in
+          inr (eqb-true c 42 parts.0, cut.0, cut.1, cut.2, is_match-Matches p cut.1 cut.3)
     ]
 
 Matches-is_match : (p n : List ℕ) → Matches p n → is_match p n ≡ true
@@ -160,12 +160,12 @@ after_piece-Some piece whole next is (x ∷ n) rest h =
     let here = drop (length piece) (x ∷ n) in
     elim (some_or (has_front piece (x ∷ n)) here rest (after_piece piece n) h) [
       | inl parts ↦
-        let same : whole (x ∷ n) ≡ some_end next here = is (x ∷ n) ∙ cond-true (has_front piece (x ∷ n)) (some_end next here) false parts.0 in
-        or_left_only (whole (x ∷ n)) (some_end whole n) (λ passes. same ∙ some_end-longer next (length piece) (x ∷ n) (later piece whole next is n passes))
-        ∙ (same ∙ ap (some_end next) parts.1)
+          let same : whole (x ∷ n) ≡ some_end next here = is (x ∷ n) ∙ cond-true (has_front piece (x ∷ n)) (some_end next here) false parts.0 in
+          or_left_only (whole (x ∷ n)) (some_end whole n) (λ passes. same ∙ some_end-longer next (length piece) (x ∷ n) (later piece whole next is n passes))
+          ∙ (same ∙ ap (some_end next) parts.1)
       | inr parts ↦
-        let off : whole (x ∷ n) ≡ false = is (x ∷ n) ∙ cond-false (has_front piece (x ∷ n)) (some_end next here) false parts.0 in
-        rw off (after_piece-Some piece whole next is n rest parts.1)
+          let off : whole (x ∷ n) ≡ false = is (x ∷ n) ∙ cond-false (has_front piece (x ∷ n)) (some_end next here) false parts.0 in
+          rw off (after_piece-Some piece whole next is n rest parts.1)
     ]
 
 -- a pattern with no star matches some end exactly where the name ends with it
@@ -174,14 +174,14 @@ plain_end p n h =
     let ends = ends_is Decides-eqb n p (ends_with nat_eq n p) refl in
     same_test (some_end (is_match p) n) (ends_with nat_eq n p)
     (λ passes.
-      let cut = some_end-back (is_match p) n passes in
-      let is : cut.1 ≡ p = (bytes_eq-Decides cut.1 p).0 (sym (plain_test p cut.1 h) ∙ cut.3) in
-      ends.1 cut.0 (cut.2 ∙ ap (λ r. cut.0 ++ r) is))
+    let cut = some_end-back (is_match p) n passes in
+    let is : cut.1 ≡ p = (bytes_eq-Decides cut.1 p).0 (sym (plain_test p cut.1 h) ∙ cut.3) in
+    ends.1 cut.0 (cut.2 ∙ ap (λ r. cut.0 ++ r) is))
     (λ passes.
-      let front = take (length n - length p) n in
-      let e : n ≡ front ++ p = ends.0 passes in
-      let whole : is_match p p ≡ true = plain_test p p h ∙ (bytes_eq-Decides p p).1 refl in
-      ap (some_end (is_match p)) e ∙ some_end-front (is_match p) front p whole)
+    let front = take (length n - length p) n in
+    let e : n ≡ front ++ p = ends.0 passes in
+    let whole : is_match p p ≡ true = plain_test p p h ∙ (bytes_eq-Decides p p).1 refl in
+    ap (some_end (is_match p)) e ∙ some_end-front (is_match p) front p whole)
 
 -- the same of a pattern that is parted at its first star
 pub front_missing : (pattern piece q n : List ℕ) → pattern ≡ piece ++ 42 ∷ q → HasNoStar piece → bytes_eq (take (length piece) n) piece ≡ false → is_match pattern n ≡ false

@@ -70,8 +70,8 @@ pub partitioned : (name : List ℕ) (xs : List FollowPattern) → Ascend xs → 
 partitioned name xs up i j d le lt h =
     elim (cases_lt i j) [
       | inl less ↦
-        let first : slice_cmp nat_cmp (get_or xs i d).name (get_or xs j d).name ≡ Less = Less-from_sorted by_name xs i j d up less lt in
-        ap is_lt (nat_list_cmp_total.trans (get_or xs i d).name (get_or xs j d).name name first (Less-lt _ h))
+          let first : slice_cmp nat_cmp (get_or xs i d).name (get_or xs j d).name ≡ Less = Less-from_sorted by_name xs i j d up less lt in
+          ap is_lt (nat_list_cmp_total.trans (get_or xs i d).name (get_or xs j d).name name first (Less-lt _ h))
       | inr more ↦ let e : i ≡ j = omega arith in rw e h
     ]
 
@@ -118,19 +118,19 @@ Ascend-with_pattern pattern [] up none = (tt, tt)
 Ascend-with_pattern pattern (x ∷ xs) up none =
     (elim (slice_cmp nat_cmp x.name pattern.name) as (λ o. slice_cmp nat_cmp x.name pattern.name ≡ o → Ascend (with_pattern pattern (x ∷ xs))) [
       | Less ↦ λ e.
-        let t = below-Less pattern.name x e in
-        let b = t.0 in
-        let a = t.1 in
-        let none' : pattern_of pattern.name xs ≡ None = rw a at none in
-        rw b (All-insert (λ y. by_name x y ≡ Less) pattern e (place_of pattern.name xs) xs up.0, Ascend-with_pattern pattern xs up.1 none')
+          let t = below-Less pattern.name x e in
+          let b = t.0 in
+          let a = t.1 in
+          let none' : pattern_of pattern.name xs ≡ None = rw a at none in
+          rw b (All-insert (λ y. by_name x y ≡ Less) pattern e (place_of pattern.name xs) xs up.0, Ascend-with_pattern pattern xs up.1 none')
       | Equal ↦ λ e. let t = below-Equal pattern.name x e in let a = t.1 in let no : Some x ≡ None = rw a at none in cc
       | Greater ↦ λ e.
-        let t = below-Greater pattern.name x e in
-        let b = t.0 in
-        let rest = filter-above (is_below pattern.name) (is_of pattern.name) xs (Above-after pattern.name x (λ k. Greater-after pattern.name x.name k e) xs up.0) in
-        let first : place_of pattern.name (x ∷ xs) ≡ 0 = rw b (rw rest) in
-        let less : slice_cmp nat_cmp pattern.name x.name ≡ Less = nat_list_cmp_total.antisymm pattern.name x.name ∙ ap ordering_reverse e in
-        rw first ((less, All-after pattern x less xs up.0), up)
+          let t = below-Greater pattern.name x e in
+          let b = t.0 in
+          let rest = filter-above (is_below pattern.name) (is_of pattern.name) xs (Above-after pattern.name x (λ k. Greater-after pattern.name x.name k e) xs up.0) in
+          let first : place_of pattern.name (x ∷ xs) ≡ 0 = rw b (rw rest) in
+          let less : slice_cmp nat_cmp pattern.name x.name ≡ Less = nat_list_cmp_total.antisymm pattern.name x.name ∙ ap ordering_reverse e in
+          rw first ((less, All-after pattern x less xs up.0), up)
     ]) refl
 
 pub Ascend-added : (pattern : FollowPattern) (n : ℕ) (xs : List FollowPattern) → IsGap pattern.name n xs → Ascend xs → Ascend (insert xs n pattern)

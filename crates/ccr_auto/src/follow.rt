@@ -7,13 +7,11 @@ ghost use Rattle.ccr_auto.specs.Follow.{Ascend, HasMarker, IsGap, IsPlace, Marks
 ghost use Rattle.ccr_auto.specs.Patterns.{is_match};
 ghost use Rattle.ccr_auto.specs.Answers.{IsJudged, IsDecision};
 
+use crate::pattern::matches;
+use ccr_op::Name;
 use std::alloc::{AllocError, Global};
 use std::marker::Model;
-
-use ccr_op::Name;
 use thiserror::Error;
-
-use crate::pattern::matches;
 
 /// What stands in the follow name of a pattern for the name of the leader index.
 const MARKER: &str = "{{leader_index}}";
@@ -138,7 +136,13 @@ impl AutoFollow {
     /// where there are no patterns, where one has a byte other than `a-z 0-9 . _ - *`, or where the follow
     /// name does not have `{{leader_index}}` exactly once. A refused call changes nothing.
     #[tactic(auto, using(crate::proofs::Ordered::taken_answer, crate::proofs::Ordered::free_answer))]
-    pub fn put(&mut self, name: Name, remote: Name, patterns: Vec<Name>, follow: Name) -> Result<(), AutoFault>
+    pub fn put(
+        &mut self,
+        name: Name,
+        remote: Name,
+        patterns: Vec<Name>,
+        follow: Name,
+    ) -> Result<(), AutoFault>
         ensures answer { MatchOption (pattern_of name self.old) (IsJudged patterns.items follow result) (λ taken. result ≡ Err AutoFault.NameTaken) }
         ensures ok { OnOk result (self.new ≡ with_pattern (record { name = name; remote = remote; patterns = patterns.items; follow = follow }) self.old) }
         ensures err { OnErr result (self.new ≡ self.old) }

@@ -1,10 +1,10 @@
 -- What each call leaves is kept in order.
-use Rattle.std.proofs.Common.{◌≡◌, ℕ, zero, suc, ◌+◌, ◌<◌, ◌≤◌, ◌==◌, ◌≢◌, Bool, true, false, not, max, min, List, [], ◌∷◌, ◌++◌, length, map, find, Option, None, Some, is_some, option_map, MatchOption, refl, sym, ◌∙◌, ap, subst, arith, All, length-append, add-one, if◌then◌else◌}
+use Rattle.std.proofs.Common.{◌≡◌, ℕ, zero, suc, ◌+◌, ◌<◌, ◌≤◌, ◌==◌, ◌≢◌, Bool, true, false, max, List, [], ◌∷◌, ◌++◌, length, map, find, Option, None, Some, is_some, option_map, MatchOption, refl, sym, ◌∙◌, ap, subst, arith, All, length-append, add-one, if◌then◌else◌}
 use Rattle.std.proofs.lemmas.List.{length-map}
 use Rattle.std.specs.Option.{option_map_or}
 use Rattle.ccr_insync.specs.declared.Member.{Member}
 use Rattle.ccr_insync.specs.Members.{member_of, least_known, in_step, as_acked, as_resynced, as_term_begins, without, AscendWithin}
-use Rattle.ccr_insync.specs.InSyncSet.{InSyncSet, has, is_resynced, is_acked, first_copies, first_set, set_of_one, acked, left, promoted, resynced, added, is_behind, IsLeastBehind, IsKept}
+use Rattle.ccr_insync.specs.InSyncSet.{InSyncSet, has, first_copies, first_set, set_of_one, acked, left, promoted, resynced, is_behind, IsLeastBehind, IsKept}
 use Rattle.ccr_insync.proofs.MemberLists.{within-map, within-without, within-push, mark-map, mark-without, mark-push, begins, length-without-le, known-resynced, least_known-le, find_passes, find_least, find_none}
 
 same_kept : (term primary next now global : ℕ) (left members : List Member) → now ≡ global → left ≡ members

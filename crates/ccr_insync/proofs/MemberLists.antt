@@ -1,14 +1,14 @@
 -- Lists of copies: look-ups and orders under each change.
-use Rattle.std.proofs.Common.{◌≡◌, ℕ, ◌+◌, ◌<◌, ◌≤◌, ◌==◌, ◌≢◌, Bool, true, false, not, min, List, [], ◌∷◌, ◌++◌, length, map, find, filter, take, drop, Option, None, Some, is_some, option_map, unwrap_or, if◌then◌else◌, refl, sym, ◌∙◌, ap, subst, arith, get_or, All}
+use Rattle.std.proofs.Common.{◌≡◌, ℕ, ◌+◌, ◌<◌, ◌≤◌, ◌==◌, ◌≢◌, Bool, true, false, not, min, List, [], ◌∷◌, ◌++◌, length, map, find, take, drop, None, Some, is_some, if◌then◌else◌, refl, sym, ◌∙◌, ap, subst, arith, get_or, All}
 use Rattle.std.proofs.Math.ListN.{set}
-use Rattle.std.specs.List.{reduce, fold}
+use Rattle.std.specs.List.{fold}
 use Rattle.std.specs.Option.{option_map_or}
 use Rattle.std.proofs.lemmas.List.{get_or_default}
 use Rattle.std.proofs.lemmas.List.Edits.{map_over_more}
 use Rattle.std.proofs.lemmas.List.Elements.{All-cons, All-nil}
 use Rattle.std.proofs.lemmas.Bool.Decides.{nat_tests}
 use Rattle.ccr_insync.specs.declared.Member.{Member}
-use Rattle.ccr_insync.specs.Members.{member_of, least_known, in_step, as_acked, as_resynced, as_term_begins, without, AscendWithin}
+use Rattle.ccr_insync.specs.Members.{member_of, least_known, in_step, as_resynced, as_term_begins, without, AscendWithin}
 
 -- one more turn of a loop that changes each copy
 pub map_turn : (f : Member → Member) (xs ys : List Member) (i : ℕ) (d r : Member) → i < length xs → i < length ys

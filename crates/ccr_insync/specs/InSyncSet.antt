@@ -1,5 +1,5 @@
 -- The in-sync set of a shard, and what each call makes of it.
-use Rattle.std.specs.Prelude.{◌≡◌, ℕ, zero, suc, ◌+◌, ◌≤◌, ◌==◌, ◌&&◌, Bool, true, false, not, max, nat_lt, List, [], ◌∷◌, ◌++◌, length, map, find, Option, None, Some, is_some, IsTrue, option_map, All, if◌then◌else◌}
+use Rattle.std.specs.Prelude.{◌≡◌, ℕ, zero, suc, ◌+◌, ◌≤◌, ◌==◌, ◌&&◌, Bool, true, false, not, max, nat_lt, List, [], ◌∷◌, ◌++◌, length, map, Option, None, Some, is_some, All, if◌then◌else◌}
 use Rattle.std.specs.Option.{option_map_or}
 use Rattle.ccr_insync.specs.declared.Member.{Member}
 use Rattle.ccr_insync.specs.declared.SetFault.{SetFault}

@@ -1,5 +1,5 @@
 -- The copies of an in-sync set, a list that ascends by their numbers.
-use Rattle.std.specs.Prelude.{◌≡◌, ℕ, ◌+◌, ◌≤◌, ◌==◌, Bool, true, false, not, min, List, [], ◌∷◌, map, find, filter, Option, unwrap_or, if◌then◌else◌}
+use Rattle.std.specs.Prelude.{ℕ, ◌+◌, ◌≤◌, ◌==◌, true, false, not, min, List, [], ◌∷◌, map, find, filter, Option, unwrap_or, if◌then◌else◌}
 use Rattle.std.specs.List.{reduce}
 use Rattle.ccr_insync.specs.declared.Member.{Member}
 

@@ -5,7 +5,7 @@ ghost use Rattle.ccr_lease.specs.Faults.{renewal};
 
 use crate::{Expired, Lease};
 use ccr_op::{Count, LeaseId, Millis, Term};
-use std::alloc::{AllocError, AllocFailed, Global};
+use std::alloc::{AllocError, Global};
 use std::marker::Model;
 use thiserror::Error;
 

@@ -1,13 +1,11 @@
-ghost use Rattle.std.specs.Prelude.{◌≡◌, ℕ, ◌≤◌, List, [], ◌++◌, length, drop, if◌then◌else◌, Option, Some, None, IfOk, Ok, string_bytes};
-ghost use Rattle.std.specs.Option.{option_map};
-ghost use Rattle.std.specs.Str.{is_utf8};
-ghost use Rattle.std.specs.Int.{w16, w32, w64};
+ghost use Rattle.std.specs.Prelude.{◌≡◌, ℕ, ◌≤◌, List, [], ◌++◌, length, drop, IfOk, Ok};
+ghost use Rattle.std.specs.Int.{w16, w32};
 ghost use Rattle.ccr_op.specs.declared.bad_op.BadOp.TheVariants as faults;
 ghost use Rattle.ccr_op.specs.Operation.{Operation, HasSpelling, IsSourceText};
 ghost use Rattle.ccr_op.specs.Ids.{IsIdText};
-ghost use Rattle.ccr_op.specs.Fields.{byte_at, number_at, bounded_at, text_at, bounded_text_at};
+ghost use Rattle.ccr_op.specs.Fields.{byte_at, number_at, text_at};
 ghost use Rattle.ccr_op.specs.Spelling.{spelling};
-ghost use Rattle.ccr_op.specs.Reading.{Gives, u64_at, id_at, source_at, index_at, delete_at, no_op_at, kind_at, operation_at};
+ghost use Rattle.ccr_op.specs.Reading.{Gives, u64_at, id_at, source_at, index_at, delete_at, no_op_at, operation_at};
 
 use crate::kinds::{DELETE, INDEX, NO_OP};
 use crate::{BadOp, Body, DocId, Op};

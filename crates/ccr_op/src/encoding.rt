@@ -1,6 +1,4 @@
 ghost use Rattle.std.specs.Prelude.{◌≡◌, ◌+◌, ◌≤◌, ◌++◌, length, OnOk, OnErr, vec_len, vec_capacity};
-ghost use Rattle.std.specs.Int.{w16, w32};
-ghost use Rattle.ccr_op.specs.Fields.{counted};
 ghost use Rattle.ccr_op.specs.Operation.{KindFits};
 ghost use Rattle.ccr_op.specs.Spelling.{spelling, kind_byte, kind_fields};
 

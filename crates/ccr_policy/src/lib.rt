@@ -219,7 +219,11 @@ fn places_in(alloc: Global, sizes: &[PartSize], tier: u32) -> Result<Vec<usize>,
 fn places_below(alloc: Global, count: usize) -> Result<Vec<usize>, AllocError>
     ensures { IfOk result (λ places. places.items ≡ range_with_len 0 count) }
 {
-    (0..count).collect(alloc)
+    let mut places = Vec::new(alloc);
+    for place in 0..count {
+        places.push(place)?;
+    }
+    Ok(places)
 }
 
 #[cfg(test)]

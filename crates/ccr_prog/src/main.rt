@@ -7,10 +7,9 @@ ghost use Rattle.ccr_prog.specs.Complaint.{IsQuiet};
 use ccr_io::{StdSink, StdSource};
 use ccr_run::{Report, Status, replay};
 use std::alloc::{AllocError, Global};
-use std::env;
-use std::io;
 use std::process::ExitCode;
 use std::rt::Env;
+use std::{env, io};
 
 // The words behind the program's own name.
 fn words(rt: &(impl Env + AllocGlobal)) -> Result<Vec<String>, AllocError> {

@@ -1,9 +1,8 @@
 -- A query with lists of queries, of which at most 32 stand inside one another.
-use Rattle.std.specs.Prelude.{ℕ, zero, suc, List, [], ◌∷◌, Bool, true, false, ◌||◌, codes, if◌then◌else◌, Option, Some, None, Result, Ok, Err}
+use Rattle.std.specs.Prelude.{ℕ, zero, suc, List, Bool, ◌||◌, codes, if◌then◌else◌, Option, Some, None, Result, Ok, Err}
 use Rattle.std.specs.Str.{bytes_eq}
 use Rattle.serde_json.specs.Data.{Data, null, boolean, number, string, array, object, Items, no_items, item, Members, no_members, member}
 use Rattle.ccr_doc.specs.Sources.{value_of}
-use Rattle.ccr_query.specs.declared.conditions.Condition.{Condition}
 use Rattle.ccr_query.specs.declared.reading.BadQuery.{BadQuery}
 use Rattle.ccr_query.specs.declared.reading.BadQuery.TheVariants.{BadValue, Depth, NotJson}
 use Rattle.ccr_query.specs.Queries.{Tree, condition, bool, Trees, no_trees, tree}

@@ -1,6 +1,6 @@
 -- Trees of queries as numbers, by which a proof tells two of them apart, and their sizes.
-use Rattle.std.specs.Prelude.{◌≡◌, ℕ, ◌+◌, ◌≤◌, List, [], ◌∷◌}
-use Rattle.std.proofs.Common.{ap, sym, subst, suc-ne-zero}
+use Rattle.std.specs.Prelude.{◌≡◌, ℕ, ◌+◌}
+use Rattle.std.proofs.Common.{ap, sym, subst}
 use Rattle.std.specs.Coded.{Coded}
 use base.Stored.{Gv, gnil, gnum, gcons}
 use Rattle.ccr_query.specs.declared.conditions.Condition.{Condition}

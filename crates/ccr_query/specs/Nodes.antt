@@ -1,5 +1,4 @@
 -- The tree of a query's node.
-use Rattle.std.specs.Prelude.{List}
 use Rattle.ccr_query.specs.declared.queries.Node.{Node}
 use Rattle.ccr_query.specs.declared.queries.Node.TheVariants.{Condition, Bool}
 use Rattle.ccr_query.specs.Queries.{Tree, condition, bool, trees_of}

@@ -1,18 +1,16 @@
 -- The query that a JSON value is, or its first refusal: values are read from the front, and the members of an object in
 -- ascending order of their names.
-use Rattle.std.specs.Prelude.{ℕ, ◌+◌, zero, suc, List, [], ◌∷◌, Bool, true, false, not, ◌&&◌, ◌||◌, ◌==◌, codes, if◌then◌else◌, Option, Some, None, option_map, Result, Ok, Err}
+use Rattle.std.specs.Prelude.{ℕ, ◌+◌, List, Bool, true, false, not, ◌&&◌, ◌||◌, ◌==◌, codes, if◌then◌else◌, Option, Some, None, option_map, Result, Ok, Err}
 use Rattle.std.specs.Str.{bytes_eq}
-use Rattle.serde_json.specs.Data.{Data, null, boolean, number, string, array, object, Items, no_items, item, Members, no_members, member}
+use Rattle.serde_json.specs.Data.{Data, null, boolean, number, string, array, object, Members, no_members, member}
 use Rattle.serde_json.specs.Events.{members_len}
-use Rattle.serde_json.specs.Find.{as_i64, as_str, as_object, get}
-use Rattle.ccr_doc.specs.Sources.{value_of}
+use Rattle.serde_json.specs.Find.{as_i64, as_str, get}
 use Rattle.ccr_doc.specs.declared.scalars.Scalar.{Scalar}
 use Rattle.ccr_doc.specs.declared.scalars.Scalar.TheVariants.{Text, Number, Truth}
 use Rattle.ccr_query.specs.declared.conditions.Condition.{Condition}
 use Rattle.ccr_query.specs.declared.conditions.Condition.TheVariants.{MatchAll, Term, Range, Match, Prefix, Exists}
 use Rattle.ccr_query.specs.declared.reading.BadQuery.{BadQuery}
-use Rattle.ccr_query.specs.declared.reading.BadQuery.TheVariants.{UnknownClause, BadValue, Depth, NotJson}
-use Rattle.ccr_query.specs.Queries.{Tree, condition, bool, Trees, no_trees, tree}
+use Rattle.ccr_query.specs.declared.reading.BadQuery.TheVariants.{UnknownClause, BadValue}
 
 -- a text, a whole number of 64 bits with a sign, or a truth value
 abbrev pub scalar_of : Data → Option Scalar

@@ -1,5 +1,5 @@
 // What one shard answers to a search.
-ghost use Rattle.std.specs.Prelude.{◌≡◌, IfOk, take};
+ghost use Rattle.std.specs.Prelude.{◌≡◌, IfOk};
 
 use ccr_op::{Body, Count, DocId};
 use std::alloc::{AllocError, Global};

@@ -1,5 +1,5 @@
 // Queries, and what they mean on one document.
-ghost use Rattle.std.specs.Prelude.{◌≡◌, ◌+◌, ◌<◌, ◌^◌, map, IfOk};
+ghost use Rattle.std.specs.Prelude.{◌≡◌, ◌+◌, ◌<◌, ◌^◌, IfOk};
 ghost use Rattle.ccr_query.specs.Queries.{holds as holds_of, all_hold as all_hold_of, any_holds as any_holds_of, is_empty as is_empty_of, trees_of};
 
 use crate::conditions::Condition;

@@ -1,11 +1,11 @@
 // How queries are read.
-ghost use Rattle.std.specs.Prelude.{◌≡◌, ◌≢◌, ◌≤◌, Some, None, Ok, Err, IfOk, IfErr, OnErr, option_map};
+ghost use Rattle.std.specs.Prelude.{◌≡◌, ◌≢◌, ◌≤◌, Some, None, Ok, Err, IfOk, IfErr, option_map};
 ghost use Rattle.serde_json.specs.Events.{members_len};
 ghost use Rattle.serde_json.specs.View.{view, items_view, members_view};
 ghost use Rattle.ccr_query.specs.declared.reading.BadQuery.TheVariants.{Memory};
 ghost use Rattle.ccr_query.specs.declared.conditions.Condition.TheVariants.{Match, Prefix};
 ghost use Rattle.ccr_query.specs.Reading.{scalar_of, only as only_of, match_all_of, term_of, text_of, exists_of, bounds_of, range_of, bound_of, condition_of, or_bad_value as or_bad_value_of, are_bounds as are_bounds_of, are_texts as are_texts_of, are_numbers as are_numbers_of, members_in as members_in_of, is_text_bound as is_text_bound_of, is_number_bound as is_number_bound_of, given as given_of};
-ghost use Rattle.ccr_query.specs.Bools.{Lists, no_lists, is_list_name as is_list_name_of, with_list, query_of, bool_of, lists_of, list_of, queries_of, query_from};
+ghost use Rattle.ccr_query.specs.Bools.{no_lists, is_list_name as is_list_name_of, with_list, query_of, bool_of, lists_of, list_of, queries_of, query_from};
 ghost use Rattle.ccr_query.specs.Queries.{trees_of};
 ghost use Rattle.ccr_query.specs.Listed.{lists_in};
 

@@ -38,12 +38,12 @@ lines-last b (x ∷ piece) plain = rw (plain.0, lines-last x piece plain.1) refl
 
 -- a text that begins with bytes that are no line feeds has a line that begins with them
 pub lines-begin : (b : ℕ) (piece rest : List ℕ) → IsPlain (b ∷ piece)
-  → (back : List ℕ) × (lines : List (List ℕ)) × (lines_of ((b ∷ piece) ++ rest) ≡ ((b ∷ piece) ++ back) ∷ lines)
+    → (back : List ℕ) × (lines : List (List ℕ)) × (lines_of ((b ∷ piece) ++ rest) ≡ ((b ∷ piece) ++ back) ∷ lines)
 lines-begin b [] rest plain = rw plain.0 (begin_with b (lines_of rest))
   where
-  begin_with : (b : ℕ) (lines : List (List ℕ)) → (back : List ℕ) × (more : List (List ℕ)) × (before_lines b lines ≡ (b ∷ back) ∷ more)
-  begin_with b [] = ([], [], refl)
-  begin_with b (line ∷ lines) = (line, lines, refl)
+    begin_with : (b : ℕ) (lines : List (List ℕ)) → (back : List ℕ) × (more : List (List ℕ)) × (before_lines b lines ≡ (b ∷ back) ∷ more)
+    begin_with b [] = ([], [], refl)
+    begin_with b (line ∷ lines) = (line, lines, refl)
 lines-begin b (x ∷ piece) rest plain =
     let more = lines-begin x piece rest plain.1 in
     (more.0, more.1, rw (plain.0, more.2) refl)
@@ -60,31 +60,31 @@ IsPlain-append (x ∷ xs) ys p q = (p.0, IsPlain-append xs ys p.1 q)
 
 -- the line so far goes on over all bytes at hand
 pub goes-on : (all : Option (List ℕ)) (left : Option (List ℕ)) (old new before after : List ℕ) → IsPlain before → Consumes all (rest_of old left) before
-  → GoesOn old new before after → IsPlain after × Consumes all (rest_of new left) after
+    → GoesOn old new before after → IsPlain after × Consumes all (rest_of new left) after
 goes-on all left old new before after plain taken g = (rw g.taken (IsPlain-append before old plain g.plain), consumed all left taken)
   where
-  consumed : (all : Option (List ℕ)) (left : Option (List ℕ)) → Consumes all (rest_of old left) before → Consumes all (rest_of new left) after
-  consumed None left t = tt
-  consumed (Some whole) None t = t
-  consumed (Some whole) (Some rest) t =
-      let e : whole ≡ before ++ (old ++ rest) = t in
-      rw (g.taken, g.rest) (e ∙ sym (append_assoc before old rest))
+    consumed : (all : Option (List ℕ)) (left : Option (List ℕ)) → Consumes all (rest_of old left) before → Consumes all (rest_of new left) after
+    consumed None left t = tt
+    consumed (Some whole) None t = t
+    consumed (Some whole) (Some rest) t =
+        let e : whole ≡ before ++ (old ++ rest) = t in
+        rw (g.taken, g.rest) (e ∙ sym (append_assoc before old rest))
 
 -- the line ends at a line feed
 pub line-ends : (all : Option (List ℕ)) (left : Option (List ℕ)) (old new before after : List ℕ) → IsPlain before → Consumes all (rest_of old left) before
-  → EndsLine old new before after → GivesLine all (rest_of new left) after
+    → EndsLine old new before after → GivesLine all (rest_of new left) after
 line-ends None left old new before after plain taken g = tt
 line-ends (Some whole) None old new before after plain taken g = taken
 line-ends (Some whole) (Some rest) old new before after plain taken g =
     let e : whole ≡ before ++ (old ++ rest) = taken in
     let plain_after : IsPlain (before ++ g.piece) = IsPlain-append before g.piece plain g.plain in
     let whole_is : whole ≡ (before ++ g.piece) ++ 10 ∷ (new ++ rest) =
-      (e ∙ ap (λ xs. before ++ (xs ++ rest)) g.rest) ∙ (ap (λ xs. before ++ xs) (append_assoc g.piece (10 ∷ new) rest) ∙ sym (append_assoc before g.piece (10 ∷ (new ++ rest)))) in
+    (e ∙ ap (λ xs. before ++ (xs ++ rest)) g.rest) ∙ (ap (λ xs. before ++ xs) (append_assoc g.piece (10 ∷ new) rest) ∙ sym (append_assoc before g.piece (10 ∷ (new ++ rest)))) in
     (ap lines_of whole_is ∙ lines-ended (before ++ g.piece) (new ++ rest) plain_after) ∙ ap (λ xs. xs ∷ lines_of (new ++ rest)) (sym g.taken)
 
 -- the line ends at the end
 pub line-last : (all : Option (List ℕ)) (left : Option (List ℕ)) (bytes : List ℕ) → IsPlain bytes → bytes ≢ [] → Consumes all (rest_of [] left) bytes → IsAtEnd left
-  → GivesLine all (rest_of [] left) bytes
+    → GivesLine all (rest_of [] left) bytes
 line-last None left bytes plain some taken end = tt
 line-last (Some whole) None bytes plain some taken end = taken
 line-last (Some whole) (Some rest) [] plain some taken end = absurd (some refl)
@@ -96,7 +96,7 @@ line-last (Some whole) (Some rest) (b ∷ bytes) plain some taken end =
 
 -- the line goes past what a line may have
 pub line-over : (all : Option (List ℕ)) (rest : Option (List ℕ)) (bytes : List ℕ) (most : ℕ) → IsPlain bytes → most < length bytes → Consumes all rest bytes
-  → FirstLineIsOver all most
+    → FirstLineIsOver all most
 line-over None rest bytes most plain long taken = tt
 line-over (Some whole) None bytes most plain long taken = absurd taken
 line-over (Some whole) (Some rest) [] most plain long taken = absurd (omega arith)
@@ -143,12 +143,12 @@ not-nil (x ∷ before) old after some e none = absurd (let h : x ∷ (before ++ 
 
 -- the line is what was left
 pub line-finishes : (all left left' : Option (List ℕ)) (old mid new before after : List ℕ) → IsPlain before → Consumes all (rest_of old left) before → old ≢ []
-  → GoesOn old mid before after → rest_of new left' ≡ rest_of mid left → new ≡ [] → IsAtEnd left' → GivesLine all (rest_of new left') after
+    → GoesOn old mid before after → rest_of new left' ≡ rest_of mid left → new ≡ [] → IsAtEnd left' → GivesLine all (rest_of new left') after
 line-finishes all left left' old mid new before after plain taken some g same none end =
     let on = goes-on all left old mid before after plain taken g in
     let taken_all : Consumes all (rest_of new left') after = subst (λ rest. Consumes all rest after) (sym same) on.1 in
     let taken_none : Consumes all (rest_of [] left') after = subst (λ xs. Consumes all (rest_of xs left') after) none taken_all in
     subst (λ xs. GivesLine all (rest_of xs left') after) (sym none)
-      (line-last all left' after on.0 (not-nil before old after some g.taken) taken_none end)
+    (line-last all left' after on.0 (not-nil before old after some g.taken) taken_none end)
 
 pub ruleset reading = (goes-on, line-ends, line-last, line-over, given-over, has-line, rest-same, consumes-none, at-end)

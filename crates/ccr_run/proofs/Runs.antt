@@ -48,8 +48,8 @@ read_line-inside number line few short =
     rw (few', short') refl
 
 pub line-done : (number : ℕ) (line : List ℕ) (command : Command) (reply : Reply) (before after : List Entry) (old new : Option (List ℕ))
-  → read_line number line ≡ Ok (Some command) → CommandDone command before after reply → Appends old new (line_of number (text_of reply))
-  → LineDone number line before after old new
+    → read_line number line ≡ Ok (Some command) → CommandDone command before after reply → Appends old new (line_of number (text_of reply))
+    → LineDone number line before after old new
 line-done number line command reply before after old new reads done written =
     let deed : Deed = record { asked = record { number = number; command = command }; entries = done.entries } in
     record {
@@ -105,35 +105,36 @@ playing-starts script journal old none = record {
   written = Appends-nil old;
 }
   where
-  front : (s : Option (List ℕ)) → IsFront s (rest_of [] s) 0 []
-  front None = tt
-  front (Some bytes) = (refl, refl)
+    front : (s : Option (List ℕ)) → IsFront s (rest_of [] s) 0 []
+    front None = tt
+    front (Some bytes) = (refl, refl)
 
 asked_by-append : (number : ℕ) (command : Option Command) (more : List Asked) → asked_by number (Ok command) more ≡ asked_by number (Ok command) [] ++ more
 asked_by-append number None more = refl
 asked_by-append number (Some command) more = refl
 
 front-turn : (script rest rest' : Option (List ℕ)) (number : ℕ) (asked more : List Asked) (line : List ℕ) (command : Option Command)
-  → IsFront script rest number asked → GivesLine rest rest' line → read_line (number + 1) line ≡ Ok command → more ≡ asked_by (number + 1) (Ok command) []
-  → IsFront script rest' (number + 1) (asked ++ more)
+    → IsFront script rest number asked → GivesLine rest rest' line → read_line (number + 1) line ≡ Ok command → more ≡ asked_by (number + 1) (Ok command) []
+    → IsFront script rest' (number + 1) (asked ++ more)
 front-turn None rest rest' number asked more line command front gives reads e = tt
 front-turn (Some script) None rest' number asked more line command front gives reads e = absurd front
 front-turn (Some script) (Some rest) None number asked more line command front gives reads e = absurd gives
 front-turn (Some script) (Some rest) (Some rest') number asked more line command front gives reads e = (
-    front.0 ∙ (ap (λ xs. asked ++ commands_of (number + 1) xs) gives
+  front.0 ∙ (ap (λ xs. asked ++ commands_of (number + 1) xs) gives
       ∙ (ap (λ r. asked ++ asked_by (number + 1) r (commands_of (number + 1 + 1) (lines_of rest'))) reads
       ∙ (ap (λ xs. asked ++ xs) (asked_by-append (number + 1) command (commands_of (number + 1 + 1) (lines_of rest')))
       ∙ (ap (λ xs. asked ++ (xs ++ commands_of (number + 1 + 1) (lines_of rest'))) (sym e)
       ∙ sym (append_assoc asked more (commands_of (number + 1 + 1) (lines_of rest'))))))),
-    front.1 ∙ (ap (λ xs. first_bad (number + 1) xs) gives
-      ∙ ap (λ r. bad_by (number + 1) r (first_bad (number + 1 + 1) (lines_of rest'))) reads))
+  front.1 ∙ (ap (λ xs. first_bad (number + 1) xs) gives
+      ∙ ap (λ r. bad_by (number + 1) r (first_bad (number + 1 + 1) (lines_of rest'))) reads),
+)
 
 pub playing-turn : (script rest rest' : Option (List ℕ)) (number : ℕ) (before after : List Entry) (old mid new : Option (List ℕ))
-  → Playing script rest number before old mid → TurnDone rest rest' (number + 1) before after mid new → Playing script rest' (number + 1) after old new
+    → Playing script rest number before old mid → TurnDone rest rest' (number + 1) before after mid new → Playing script rest' (number + 1) after old new
 playing-turn script rest rest' number before after old mid new p t = record {
   deeds = p.deeds ++ t.done.deeds;
   front = subst (λ xs. IsFront script rest' (number + 1) xs) (sym (map-append (λ (d : Deed). d.asked) p.deeds t.done.deeds))
-    (front-turn script rest rest' number (map (λ (d : Deed). d.asked) p.deeds) (map (λ (d : Deed). d.asked) t.done.deeds) t.line t.done.command p.front t.gives t.done.reads t.done.asked);
+      (front-turn script rest rest' number (map (λ (d : Deed). d.asked) p.deeds) (map (λ (d : Deed). d.asked) t.done.deeds) t.line t.done.command p.front t.gives t.done.reads t.done.asked);
   each = All-append IsDone p.deeds t.done.deeds p.each t.done.each;
   entered = (t.done.entered ∙ ap (λ xs. xs ++ flat_map (λ (d : Deed). d.entries) t.done.deeds) p.entered) ∙ sym (flat_map-append (λ (d : Deed). d.entries) p.deeds t.done.deeds);
   written = subst (λ xs. Appends old new xs) (sym (flat_map-append answer_to p.deeds t.done.deeds)) (Appends-trans old mid new (flat_map answer_to p.deeds) (flat_map answer_to t.done.deeds) p.written t.done.written);
@@ -142,12 +143,13 @@ playing-turn script rest rest' number before after old mid new p t = record {
 script-end : (script rest : Option (List ℕ)) (number : ℕ) (asked : List Asked) → IsFront script rest number asked → IsAtEnd rest → IsScript script asked None
 script-end None rest number asked front end = tt
 script-end (Some script) None number asked front end = absurd front
-script-end (Some script) (Some rest) number asked front end =
-    (front.0 ∙ (ap (λ xs. asked ++ commands_of (number + 1) (lines_of xs)) end ∙ append-nil asked),
-     front.1 ∙ ap (λ xs. first_bad (number + 1) (lines_of xs)) end)
+script-end (Some script) (Some rest) number asked front end = (
+  front.0 ∙ (ap (λ xs. asked ++ commands_of (number + 1) (lines_of xs)) end ∙ append-nil asked),
+  front.1 ∙ ap (λ xs. first_bad (number + 1) (lines_of xs)) end,
+)
 
 pub played-whole : (script rest : Option (List ℕ)) (number : ℕ) (before after : List Entry) (old mid new : Option (List ℕ))
-  → Playing script rest number before old mid → IsAtEnd rest → after ≡ before → new ≡ mid → Played script None after old new
+    → Playing script rest number before old mid → IsAtEnd rest → after ≡ before → new ≡ mid → Played script None after old new
 played-whole script rest number before after old mid new p end same_journal same_sink = record {
   deeds = p.deeds;
   whole = script-end script rest number (map (λ (d : Deed). d.asked) p.deeds) p.front end;
@@ -157,22 +159,23 @@ played-whole script rest number before after old mid new p end same_journal same
 }
 
 script-bad : (script rest : Option (List ℕ)) (number : ℕ) (asked : List Asked) (why : BadLine) → IsFront script rest number asked → BeginsBad rest (number + 1) why
-  → IsScript script asked (Some (record { line = number + 1; why = why }))
+    → IsScript script asked (Some (record { line = number + 1; why = why }))
 script-bad None rest number asked why front bad = tt
 script-bad (Some script) None number asked why front bad = absurd front
 script-bad (Some script) (Some rest) number asked why front bad = (
-    front.0 ∙ (ap (λ xs. asked ++ commands_of (number + 1) xs) bad.2
+  front.0 ∙ (ap (λ xs. asked ++ commands_of (number + 1) xs) bad.2
       ∙ (ap (λ r. asked ++ asked_by (number + 1) r (commands_of (number + 1 + 1) bad.1)) bad.3 ∙ append-nil asked)),
-    front.1 ∙ (ap (λ xs. first_bad (number + 1) xs) bad.2
-      ∙ ap (λ r. bad_by (number + 1) r (first_bad (number + 1 + 1) bad.1)) bad.3))
+  front.1 ∙ (ap (λ xs. first_bad (number + 1) xs) bad.2
+      ∙ ap (λ r. bad_by (number + 1) r (first_bad (number + 1 + 1) bad.1)) bad.3),
+)
 
 pub played-bad : (script rest : Option (List ℕ)) (number line : ℕ) (why : BadLine) (before after : List Entry) (old mid new : Option (List ℕ))
-  → Playing script rest number before old mid → line ≡ number + 1 → BeginsBad rest (number + 1) why → after ≡ before → Appends mid new (line_of line (bad_text why))
-  → Played script (Some (record { line = line; why = why })) after old new
+    → Playing script rest number before old mid → line ≡ number + 1 → BeginsBad rest (number + 1) why → after ≡ before → Appends mid new (line_of line (bad_text why))
+    → Played script (Some (record { line = line; why = why })) after old new
 played-bad script rest number line why before after old mid new p at bad same_journal written = record {
   deeds = p.deeds;
   whole = subst (λ n. IsScript script (map (λ (d : Deed). d.asked) p.deeds) (Some (record { line = n; why = why }))) (sym at)
-    (script-bad script rest number (map (λ (d : Deed). d.asked) p.deeds) why p.front bad);
+      (script-bad script rest number (map (λ (d : Deed). d.asked) p.deeds) why p.front bad);
   each = p.each;
   entered = same_journal ∙ p.entered;
   written = Appends-trans old mid new (flat_map answer_to p.deeds) (line_of line (bad_text why)) p.written written;

@@ -2,11 +2,10 @@ ghost use Rattle.std.specs.Prelude.{◌≡◌, ℕ, ◌+◌, ◌-◌, ◌<◌, �
 ghost use Rattle.std.specs.Io.KnownBytes.{Consumes, IsAtEnd};
 ghost use Rattle.ccr_run.specs.Lines.{FirstLineIsOver, GivesLine, HasLine, IsPlain, rest_of};
 
+use crate::chunks::Chunk;
 use ccr_io::{Failed, Source};
 use std::alloc::{AllocError, Global};
 use std::marker::Model;
-
-use crate::chunks::Chunk;
 
 /// The most bytes of a line, without the line feed.
 pub const MOST_LINE_BYTES: usize = 1_048_576;
@@ -123,7 +122,11 @@ fn has_more<S: Source>(chunk: &mut Chunk, from: &mut S) -> Result<bool, LineFaul
 }
 
 // Reads to the end of the line that the bytes at hand begin.
-fn read_line<S: Source>(alloc: Global, chunk: &mut Chunk, from: &mut S) -> Result<Vec<u8>, LineFault>
+fn read_line<S: Source>(
+    alloc: Global,
+    chunk: &mut Chunk,
+    from: &mut S,
+) -> Result<Vec<u8>, LineFault>
     requires begun { chunk.old ≢ [] }
     requires countable { S.faults from.old < 2 ^ 64 - 1 }
     ensures line { IfOk result (λ bytes. GivesLine (rest_of chunk.old (S.left from.old)) (rest_of chunk.new (S.left from.new)) bytes.items) }

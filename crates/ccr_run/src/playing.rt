@@ -7,14 +7,13 @@ ghost use Rattle.ccr_run.specs.declared.commands.BadLine.{BadLine};
 ghost use Rattle.ccr_run.specs.Stops.{IfBad};
 ghost use Rattle.ccr_run.specs.Turns.{BeginsBad, CommandDone, LineDone, TurnDone};
 
-use ccr_io::{Failed, Sink, Source, write_all};
-use ccr_world::{Batch, Event, Reply, World};
-use std::alloc::{AllocError, Global};
-
 use crate::answers::{answer_line, bad_line_text};
 use crate::commands::{BadLine, Command, read_command};
 use crate::lines::{LineFault, Lines, MOST_LINE_BYTES, MOST_LINES};
 use crate::statuses::Status;
+use ccr_io::{Failed, Sink, Source, write_all};
+use ccr_world::{Batch, Event, Reply, World};
+use std::alloc::{AllocError, Global};
 
 /// Why a line ended the run.
 #[derive(Clone, Copy, Debug, PartialEq, Eq)]
@@ -65,7 +64,13 @@ fn trimmed(line: &[u8]) -> &[u8]
 }
 
 /// Does the command of a line and writes its answer. A blank line gives none.
-pub fn do_line<K: Sink>(alloc: Global, world: &mut World, number: u64, line: &[u8], out: &mut K) -> Result<(), Stop>
+pub fn do_line<K: Sink>(
+    alloc: Global,
+    world: &mut World,
+    number: u64,
+    line: &[u8],
+    out: &mut K,
+) -> Result<(), Stop>
     requires countable { K.faults out.old < 2 ^ 64 - 1 }
     requires few { number < MOST_LINES }
     requires short { length line.now ≤ MOST_LINE_BYTES }
@@ -97,7 +102,13 @@ pub fn do_line<K: Sink>(alloc: Global, world: &mut World, number: u64, line: &[u
 
 /// Reads the next line, does its command and writes its answer; or says how the run ends.
 #[tactic(auto, using(crate::proofs::Runs::turning))]
-pub fn turn<S: Source, K: Sink>(alloc: Global, world: &mut World, lines: &mut Lines, script: &mut S, out: &mut K) -> Option<Status>
+pub fn turn<S: Source, K: Sink>(
+    alloc: Global,
+    world: &mut World,
+    lines: &mut Lines,
+    script: &mut S,
+    out: &mut K,
+) -> Option<Status>
     requires source { S.faults script.old < 2 ^ 64 - 1 }
     requires sink { K.faults out.old < 2 ^ 64 - 1 }
     requires numbered { lines.old.number < MOST_LINES }
@@ -156,7 +167,12 @@ fn end_at<K: Sink>(alloc: Global, line: u64, why: BadLine, out: &mut K) -> Statu
 }
 
 /// Plays a script in a world, from its first line to its end or its first bad line.
-pub fn play<S: Source, K: Sink>(alloc: Global, world: &mut World, script: &mut S, out: &mut K) -> Status
+pub fn play<S: Source, K: Sink>(
+    alloc: Global,
+    world: &mut World,
+    script: &mut S,
+    out: &mut K,
+) -> Status
     requires source { S.faults script.old < 2 ^ 64 - 1 }
     requires sink { K.faults out.old < 2 ^ 64 - 1 }
     requires fresh { world.old.journal ≡ [] }

@@ -97,19 +97,40 @@ fn ends(alloc: Global, script: &[u8], status: Status, written: &str) -> Result<b
 
 #[test]
 fn a_write_is_found_at_the_follower(rt: HostRuntime) -> Result<(), Fail> {
-    assert!(rt; ends(rt.alloc(), FIRST_PATH.as_bytes(), Status::Done, FIRST_PATH_ANSWERS)?);
+    assert!(rt;
+        ends(
+            rt.alloc(),
+            FIRST_PATH.as_bytes(),
+            Status::Done,
+            FIRST_PATH_ANSWERS
+        )?
+    );
     Ok(())
 }
 
 #[test]
 fn the_greatest_number_wins_and_not_the_last_arrival(rt: HostRuntime) -> Result<(), Fail> {
-    assert!(rt; ends(rt.alloc(), OUT_OF_ORDER.as_bytes(), Status::Done, OUT_OF_ORDER_ANSWERS)?);
+    assert!(rt;
+        ends(
+            rt.alloc(),
+            OUT_OF_ORDER.as_bytes(),
+            Status::Done,
+            OUT_OF_ORDER_ANSWERS
+        )?
+    );
     Ok(())
 }
 
 #[test]
 fn refusals_name_what_was_kept(rt: HostRuntime) -> Result<(), Fail> {
-    assert!(rt; ends(rt.alloc(), REFUSALS.as_bytes(), Status::Done, REFUSALS_ANSWERS)?);
+    assert!(rt;
+        ends(
+            rt.alloc(),
+            REFUSALS.as_bytes(),
+            Status::Done,
+            REFUSALS_ANSWERS
+        )?
+    );
     Ok(())
 }
 
@@ -124,7 +145,8 @@ fn an_empty_follower_has_no_hit(rt: HostRuntime) -> Result<(), Fail> {
 
 #[test]
 fn blank_lines_are_counted_and_returns_taken_off(rt: HostRuntime) -> Result<(), Fail> {
-    let script = b"\n \t\r\n{\"op\":\"wake\",\"index\":\"b/f\"}\r\n\r\n{\"op\":\"wake\",\"index\":\"b/f\"}\r";
+    let script =
+        b"\n \t\r\n{\"op\":\"wake\",\"index\":\"b/f\"}\r\n\r\n{\"op\":\"wake\",\"index\":\"b/f\"}\r";
     let answers = "3 refused Wait global=-1\n5 refused Wait global=-1\n";
     assert!(rt; ends(rt.alloc(), script, Status::Done, answers)?);
     Ok(())
@@ -132,12 +154,20 @@ fn blank_lines_are_counted_and_returns_taken_off(rt: HostRuntime) -> Result<(), 
 
 #[test]
 fn a_bad_line_ends_the_run(rt: HostRuntime) -> Result<(), Fail> {
-    let script = b"{\"op\":\"wake\",\"index\":\"b/f\"}\n{\"op\":\"sea\n{\"op\":\"wake\",\"index\":\"b/f\"}\n";
+    let script =
+        b"{\"op\":\"wake\",\"index\":\"b/f\"}\n{\"op\":\"sea\n{\"op\":\"wake\",\"index\":\"b/f\"}\n";
     let status = Status::BadLine {
         line: 2,
         why: BadLine::NotJson,
     };
-    assert!(rt; ends(rt.alloc(), script, status, "1 refused Wait global=-1\n2 bad NotJson\n")?);
+    assert!(rt;
+        ends(
+            rt.alloc(),
+            script,
+            status,
+            "1 refused Wait global=-1\n2 bad NotJson\n"
+        )?
+    );
     let status = Status::BadLine {
         line: 1,
         why: BadLine::NotJson,
@@ -190,9 +220,15 @@ fn other_words_are_refused(rt: HostRuntime) -> Result<(), Fail> {
     let mut source = MemSource::new(Vec::new(alloc), 64, Vec::new(alloc));
     let mut sink = MemSink::new(alloc, 64, Vec::new(alloc));
     let mut words = Vec::new(alloc);
-    assert_eq!(rt; replay(alloc, &words, &mut source, &mut sink).status, Status::Usage);
+    assert_eq!(rt;
+        replay(alloc, &words, &mut source, &mut sink).status,
+        Status::Usage
+    );
     words.push(String::from_str(alloc, "replay")?)?;
     words.push(String::from_str(alloc, "extra")?)?;
-    assert_eq!(rt; replay(alloc, &words, &mut source, &mut sink).status, Status::Usage);
+    assert_eq!(rt;
+        replay(alloc, &words, &mut source, &mut sink).status,
+        Status::Usage
+    );
     Ok(())
 }

@@ -3,12 +3,11 @@ ghost use Rattle.std.specs.Io.KnownBytes.{IsAtEnd};
 ghost use Rattle.ccr_run.specs.Replay.{AreTrue, HasPlayed, IsReplay};
 ghost use Rattle.ccr_run.specs.declared.commands.BadLine.{BadLine};
 
+use crate::playing::play;
+use crate::statuses::{Report, Status};
 use ccr_io::{Sink, Source};
 use ccr_world::{World, every_place};
 use std::alloc::Global;
-
-use crate::playing::play;
-use crate::statuses::{Report, Status};
 
 /// Replays a script: reads its lines, does their commands in order in a shard world of one leader copy and
 /// one follower copy, and writes the answer line of each when it is done.
@@ -16,7 +15,12 @@ use crate::statuses::{Report, Status};
 /// The words are to be exactly `replay`. The first failure of the source or the sink ends the run. The
 /// memory goes with the operations and the journal, and not with the script; the work goes with the bytes
 /// of the script and with what its commands read and move.
-pub fn replay<S: Source, K: Sink>(alloc: Global, words: &Vec<String>, script: &mut S, out: &mut K) -> Report
+pub fn replay<S: Source, K: Sink>(
+    alloc: Global,
+    words: &Vec<String>,
+    script: &mut S,
+    out: &mut K,
+) -> Report
     requires source { S.faults script.old < 2 ^ 64 - 1 }
     requires sink { K.faults out.old < 2 ^ 64 - 1 }
 

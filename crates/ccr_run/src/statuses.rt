@@ -1,8 +1,7 @@
 ghost use Rattle.std.specs.Prelude.{◌≡◌};
 
-use ccr_world::Journal;
-
 use crate::commands::BadLine;
+use ccr_world::Journal;
 
 /// How a run ended.
 #[derive(Clone, Copy, Debug, PartialEq, Eq)]

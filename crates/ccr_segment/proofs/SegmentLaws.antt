@@ -1,5 +1,5 @@
 -- A segment that is read is spelled so, and what is spelled so is read.
-use Rattle.std.proofs.Common.{◌≡◌, ℕ, zero, suc, ◌+◌, ◌^◌, ◌<◌, ◌≤◌, cond, eqb, ltb, List, [], ◌∷◌, ◌++◌, length, Result, Ok, Err, refl, sym, ap, subst, ◌∙◌, append_assoc, arith}
+use Rattle.std.proofs.Common.{◌≡◌, ℕ, zero, suc, ◌+◌, ◌^◌, ◌<◌, ◌≤◌, cond, eqb, ltb, List, [], ◌∷◌, ◌++◌, length, take, get_or, Result, Ok, Err, refl, sym, ap, subst, ◌∙◌, append_assoc, arith}
 use Rattle.std.specs.Prelude.{IfOk}
 use Rattle.std.specs.List.{flat_map, AllByRecursion}
 use Rattle.std.specs.Int.{w32, to_be_bytes}
@@ -127,3 +127,13 @@ segment_again ops h =
 pub is_found : (bytes : List ℕ) (r : Result (List Operation) BadSegment) → IsBytes bytes → Gives (λ ops. ops) r (segment_of bytes) → IfOk r (λ ops. HasSpelling ops × (bytes ≡ spelling ops))
 is_found bytes (Ok ops) fits given = segment_takes bytes ops fits given
 is_found bytes (Err e) fits given = tt
+
+so_far_none : {X : Type 0} (P : X → Type 0) (xs : List X) → AllByRecursion P (take zero xs)
+so_far_none P [] = tt
+so_far_none P (x ∷ xs) = tt
+
+-- what holds of the elements so far, and of the next, holds of all of them
+pub all_more : {X : Type 0} (P : X → Type 0) (xs : List X) (i : ℕ) (d : X) → i < length xs → AllByRecursion P (take i xs) → P (get_or xs i d) → AllByRecursion P (take (suc i) xs)
+all_more P [] i d lt so_far next = absurd (omega arith)
+all_more P (x ∷ xs) zero d lt so_far next = (next, so_far_none P xs)
+all_more P (x ∷ xs) (suc i) d lt so_far next = (so_far.0, all_more P xs i d (omega arith) so_far.1 next)

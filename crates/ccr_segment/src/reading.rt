@@ -1,9 +1,9 @@
 ghost use Rattle.std.specs.Prelude.{◌≡◌, ◌+◌, ◌<◌, ◌≤◌, ◌^◌, length, drop, nat_lt, not, IfOk};
 ghost use Rattle.std.specs.Int.{w32};
-ghost use Rattle.ccr_op.specs.Fields.{byte_at, number_at};
+ghost use Rattle.ccr_op.specs.Fields.{number_at};
 ghost use Rattle.ccr_op.specs.Spelling.{spelling as op_spelling};
 ghost use Rattle.ccr_segment.specs.declared.bad_segment.BadSegment.TheVariants as faults;
-ghost use Rattle.ccr_segment.specs.Reading.{Gives, expected_at, header_at, op_at, ops_at, rest_of, segment_of};
+ghost use Rattle.ccr_segment.specs.Reading.{Gives, expected_at, header_at, op_at, rest_of, segment_of};
 ghost use Rattle.ccr_segment.specs.Index.{least_after, places_of, seen, told};
 
 use crate::BadSegment;

@@ -2,9 +2,8 @@ ghost use Rattle.std.specs.Prelude.{◌≡◌, ◌<◌, ◌^◌, ◌++◌, lengt
 ghost use Rattle.std.specs.List.{flat_map};
 ghost use Rattle.std.specs.Int.{w16, w32};
 ghost use Rattle.ccr_op.specs.Fields.{counted};
-ghost use Rattle.ccr_op.specs.Ids.{IsIdText};
 ghost use Rattle.ccr_op.specs.Spelling.{spelling as op_spelling};
-ghost use Rattle.ccr_wire.specs.Message.{Frame, FieldsFit, ContentFits};
+ghost use Rattle.ccr_wire.specs.Message.{ContentFits, HasSpelling};
 ghost use Rattle.ccr_wire.specs.Spelling.{u32 as u32_bytes, u64 as u64_bytes, fields_of, spelling};
 
 use crate::{Content, Message};
@@ -248,7 +247,8 @@ fn put_fields(to: &mut Vec<u8>, content: &Content) -> Result<(), AllocError>
 /// The one spelling of a message as a frame: the byte of its kind, the follower, the request, and the fields
 /// of the kind. This takes time and one piece of memory with the length of the frame.
 pub fn encode(alloc: Global, message: &Message) -> Result<Bytes, AllocError>
-    ensures { IfOk result (λ frame. frame ≡ spelling message.now) }
+    ensures spelled { IfOk result (λ frame. frame ≡ spelling message.now) }
+    ensures fits { HasSpelling message.now }
 {
     let content = message.content();
     let mut frame = Vec::with_capacity(alloc, size_hint(content))?;

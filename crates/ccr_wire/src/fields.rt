@@ -1,11 +1,11 @@
 //! The reading of single fields from the front of bytes: each gives the value and the bytes after it.
 
-ghost use Rattle.std.specs.Prelude.{◌≡◌, ◌+◌, ◌<◌, ◌≤◌, ◌^◌, length, IfOk, string_bytes};
-ghost use Rattle.std.specs.Int.{w16, w32, w64};
+ghost use Rattle.std.specs.Prelude.{◌≡◌, ◌+◌, ◌<◌, ◌≤◌, length, IfOk};
+ghost use Rattle.std.specs.Int.{w16};
 ghost use Rattle.ccr_op.specs.Ids.{IsIdText};
 ghost use Rattle.ccr_op.specs.Fields.{byte_at, number_at, text_at};
 ghost use Rattle.ccr_wire.specs.declared.bad_frame.BadFrame.TheVariants as faults;
-ghost use Rattle.ccr_wire.specs.Message.{NumberFits, IsRun};
+ghost use Rattle.ccr_wire.specs.Message.{NumberFits};
 ghost use Rattle.ccr_wire.specs.Reading.{Gives, u32_at, u64_at, uuid_at, id_at, size_at, chunk_at, kind_at, result_at, answered_at, op_at, ops_at, sizes_at};
 
 use crate::{BadFrame, Chunk, FrameKind, LeaseResult, Ops, Sizes};

@@ -1,4 +1,4 @@
-ghost use Rattle.std.specs.Prelude.{◌≡◌, ℕ, List};
+ghost use Rattle.std.specs.Prelude.{◌≡◌};
 ghost use Rattle.std.specs.List.{AllByRecursion};
 ghost use Rattle.ccr_op.specs.Operation.{HasSpelling as OpHasSpelling};
 ghost use Rattle.ccr_wire.specs.Message.{ContentFits, FieldsFit, HasSpelling, IsU64, IsUuid};

@@ -44,12 +44,13 @@ the_answer = record {
   count = the_count;
   gap = (λ h. absurd (cc), no_gap);
   ordered = (tt, tt);
-  exact = λ hit.
-    (λ there. elim there [
-        inl e ↦ subst (λ (h : Hit). IsLive (IsIn (first_operation ∷ [])) h.id h.body) e the_live
+  exact = λ hit. (
+    λ there. elim there [
+      | inl e ↦ subst (λ (h : Hit). IsLive (IsIn (first_operation ∷ [])) h.id h.body) e the_live
       | inr none ↦ absurd none
-      ],
-    λ live. let parts = live_hit hit live in inl (same_hit hit.id (97 ∷ []) hit.body (codes "{\"n\":1}") parts.id parts.body));
+    ],
+    λ live. let parts = live_hit hit live in inl (same_hit hit.id (97 ∷ []) hit.body (codes "{\"n\":1}") parts.id parts.body),
+  );
 }
 
 pub first_path_is_legal : IsLegal start_state first_path

@@ -67,7 +67,7 @@ slice_get-end (y ∷ xs) x = slice_get-end xs x
 
 -- what stands in a list with one more at its end
 pub slice_get-one_more : {X : Type 0} (xs : List X) (y : X) (n : ℕ) (x : X) → slice_get (xs ++ y ∷ []) n ≡ Some x
-  → (slice_get xs n ≡ Some x) ⊎ record { last : n ≡ length xs; is : y ≡ x }
+    → (slice_get xs n ≡ Some x) ⊎ record { last : n ≡ length xs; is : y ≡ x }
 slice_get-one_more [] y zero x h = inr (record { last = refl; is = cc })
 slice_get-one_more [] y (suc n) x h = absurd (cc)
 slice_get-one_more (z ∷ xs) y zero x h = inl h

@@ -46,9 +46,10 @@ IsAnswer-same S T answer same h =
       count = IsCount-same S T answer.count same h.count;
       gap = (λ g. HasAbove-same S T answer.count same (h.gap.0 g), λ g. h.gap.1 (HasAbove-same T S answer.count turned g));
       ordered = h.ordered;
-      exact = λ hit.
-        (λ there. IsLive-same S T hit.id hit.body same ((h.exact hit).0 there),
-        λ live. (h.exact hit).1 (IsLive-same T S hit.id hit.body turned live));
+      exact = λ hit. (
+        λ there. IsLive-same S T hit.id hit.body same ((h.exact hit).0 there),
+        λ live. (h.exact hit).1 (IsLive-same T S hit.id hit.body turned live),
+      );
     }
 
 pub both_true : (a b : Bool) → (a && b) ≡ true → (a ≡ true) × (b ≡ true)
@@ -74,7 +75,7 @@ same_kind-equal NoOp (Delete id') h = absurd (cc)
 
 -- operations with equal parts are equal
 equal_by_parts : (s t v s' t' v' : ℕ) (k k' : Kind) → s ≡ s' → t ≡ t' → v ≡ v' → k ≡ k'
-  → (let a : Operation = record { seq = s; term = t; version = v; kind = k } in let b : Operation = record { seq = s'; term = t'; version = v'; kind = k' } in a ≡ b)
+    → (let a : Operation = record { seq = s; term = t; version = v; kind = k } in let b : Operation = record { seq = s'; term = t'; version = v'; kind = k' } in a ≡ b)
 equal_by_parts s t v s' t' v' k k' es et ev ek = cc
 
 pub same_operation-equal : (a b : Operation) → same_operation a b ≡ true → a ≡ b
@@ -83,7 +84,7 @@ same_operation-equal a b h =
     let middle = both_true ((a.seq == b.seq) && (a.term == b.term)) (a.version == b.version) upper.0 in
     let lower = both_true (a.seq == b.seq) (a.term == b.term) middle.0 in
     equal_by_parts a.seq a.term a.version b.seq b.term b.version a.kind b.kind
-      (eqb-true a.seq b.seq lower.0) (eqb-true a.term b.term lower.1) (eqb-true a.version b.version middle.1) (same_kind-equal a.kind b.kind upper.1)
+    (eqb-true a.seq b.seq lower.0) (eqb-true a.term b.term lower.1) (eqb-true a.version b.version middle.1) (same_kind-equal a.kind b.kind upper.1)
 
 pub same_operations-equal : (as' bs : List Operation) → same_operations as' bs ≡ true → as' ≡ bs
 same_operations-equal [] [] h = refl
@@ -102,13 +103,13 @@ same_operations-length as' bs h = ap (λ (xs : List Operation). length xs) (same
 pub same_operations-differ : (as' bs : List Operation) → length as' ≢ length bs → same_operations as' bs ≡ false
 same_operations-differ as' bs differ =
     elim (same_operations as' bs) as (λ b. same_operations as' bs ≡ b → b ≡ false) [
-      true ↦ λ e. absurd (differ (same_operations-length as' bs e))
-    | false ↦ λ e. refl
+      | true ↦ λ e. absurd (differ (same_operations-length as' bs e))
+      | false ↦ λ e. refl
     ] refl
 
 -- the rests behind an element that is the same
 pub same_operations-rest : (as' bs : List Operation) (i : ℕ) (d : Operation) → i < length as' → i < length bs
-  → same_operations (drop i as') (drop i bs) ≡ (same_operation (get_or as' i d) (get_or bs i d) && same_operations (drop (i + 1) as') (drop (i + 1) bs))
+    → same_operations (drop i as') (drop i bs) ≡ (same_operation (get_or as' i d) (get_or bs i d) && same_operations (drop (i + 1) as') (drop (i + 1) bs))
 same_operations-rest [] bs i d l l' = absurd (omega arith)
 same_operations-rest (a ∷ as') [] i d l l' = absurd (omega arith)
 same_operations-rest (a ∷ as') (b ∷ bs) zero d l l' = refl

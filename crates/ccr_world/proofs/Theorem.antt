@@ -38,12 +38,12 @@ holds p inv = All-map (IsAt p.line) (IsCommitted p.line p.cut) p.state.follower.
 
 -- what has exactly the numbers below a count is the line's front
 front_same : (line ops given : List Operation) (c : ℕ) → IsNumbered line → AllByRecursion (IsAt line) ops → IsSameSet (IsIn ops) (IsIn given)
-  → HasExactlyBelow (IsIn given) c → IsSameSet (IsIn ops) (IsIn (take c line))
+    → HasExactlyBelow (IsIn given) c → IsSameSet (IsIn ops) (IsIn (take c line))
 front_same line ops given c numbered held same exactly op = (
-    λ there.
+  λ there.
       let below : op.seq < c = (exactly op.seq).0 (op, (same op).0 there, refl) in
       IsIn-take line c op.seq op (All-at (IsAt line) ops op held there) below,
-    λ there.
+  λ there.
       let place = place_in_front line c op there in
       let e : op.seq ≡ place.0 = numbered place.0 op place.2 in
       let at : IsAt line op = subst (λ n. slice_get line n ≡ Some op) (sym e) place.2 in
@@ -51,13 +51,14 @@ front_same line ops given c numbered held same exactly op = (
       let other = (exactly op.seq).1 below in
       let held_other : IsIn ops other.0 = (same other.0).1 other.1 in
       let one : other.0 ≡ op = same_at line other.0 op (All-at (IsAt line) ops other.0 held held_other) at other.2 in
-      subst (λ x. IsIn ops x) one held_other)
+      subst (λ x. IsIn ops x) one held_other,
+)
 
 follower_answers : (p : Past) (answer : ShardAnswer) → InvariantAt p.line p.cut p.given p.state → IsAnswer (IsIn p.state.follower.ops) answer → FollowerAnswers p answer
 follower_answers p answer inv h = record {
   by_given = IsAnswer-same (IsIn p.state.follower.ops) (IsIn p.given) answer inv.same h;
   as_leader = λ c exactly.
-    IsAnswer-same (IsIn p.state.follower.ops) (IsIn (take c p.line)) answer
+      IsAnswer-same (IsIn p.state.follower.ops) (IsIn (take c p.line)) answer
       (front_same p.line p.state.follower.ops p.given c inv.numbered inv.held inv.same exactly) h;
 }
 
@@ -83,9 +84,10 @@ answers_truly p (Apply number batch) reply inv h = tt
 headline_from : (p : Past) (entries : List Entry) → InvariantAt p.line p.cut p.given p.state → IsLegal p.state entries → Headline p entries
 headline_from p [] inv legal = holds p inv
 headline_from p (entry ∷ entries) inv legal = (
-    holds p inv,
-    answers_truly p entry.event entry.reply inv legal.0,
-    headline_from (past_after p entry) entries (keeps_event p entry.event entry.reply inv legal.0) legal.1)
+  holds p inv,
+  answers_truly p entry.event entry.reply inv legal.0,
+  headline_from (past_after p entry) entries (keeps_event p entry.event entry.reply inv legal.0) legal.1,
+)
 
 start_true : InvariantAt [] 0 [] start_state
 start_true = record {
@@ -108,10 +110,10 @@ unfolding deliver_row
 refused-deliver s at None h = refl
 refused-deliver s at (Some (ReadRequest from)) h =
     elim (nat_lt from (length s.leader.ops)) as (λ b.
-      (let o : Outcome = (if b
-        then record { reply = Heard Done; next = record s { flight = remove s.flight at ++ ReadReply from (read_from s.leader.ops from) ∷ [] } }
-        else record { reply = Heard Parked; next = record s { leader = record s.leader { polls = s.leader.polls ++ record { from = from } ∷ [] }; flight = remove s.flight at } }) in
-      IsRefusal o.reply → o.next ≡ s)) [ true ↦ λ no. absurd no | false ↦ λ no. absurd no ] h
+    (let o : Outcome = (if b
+    then record { reply = Heard Done; next = record s { flight = remove s.flight at ++ ReadReply from (read_from s.leader.ops from) ∷ [] } }
+    else record { reply = Heard Parked; next = record s { leader = record s.leader { polls = s.leader.polls ++ record { from = from } ∷ [] }; flight = remove s.flight at } }) in
+    IsRefusal o.reply → o.next ≡ s)) [ true ↦ λ no. absurd no | false ↦ λ no. absurd no ] h
 refused-deliver s at (Some (ReadReply from ops)) h = absurd h
 
 refused-wake : (s : State) (at : ℕ) (found : Option Poll) → IsRefusal (wake_row s at found).reply → (wake_row s at found).next ≡ s
@@ -119,16 +121,16 @@ unfolding wake_row
 refused-wake s at None h = refl
 refused-wake s at (Some poll) h =
     elim (nat_lt poll.from (length s.leader.ops)) as (λ b.
-      (let o : Outcome = (if b
-        then record {
-          reply = Heard Done;
-          next = record s {
-            leader = record s.leader { polls = remove s.leader.polls at };
-            flight = s.flight ++ ReadReply poll.from (read_from s.leader.ops poll.from) ∷ [];
-          };
-        }
-        else refused s (Wait (length s.leader.ops))) in
-      IsRefusal o.reply → o.next ≡ s)) [ true ↦ λ no. absurd no | false ↦ λ yes'. refl ] h
+    (let o : Outcome = (if b
+    then record {
+      reply = Heard Done;
+      next = record s {
+        leader = record s.leader { polls = remove s.leader.polls at };
+        flight = s.flight ++ ReadReply poll.from (read_from s.leader.ops poll.from) ∷ [];
+      };
+    }
+    else refused s (Wait (length s.leader.ops))) in
+    IsRefusal o.reply → o.next ≡ s)) [ true ↦ λ no. absurd no | false ↦ λ yes'. refl ] h
 
 refused-take : (s : State) (number : ℕ) (found : Option OutstandingWrite) → (take_row s number found).next ≡ s
 unfolding take_row
@@ -140,13 +142,13 @@ unfolding apply_row
 refused-apply s number batch None h = refl
 refused-apply s number batch (Some w) h =
     elim (same_operations w.batch batch) as (λ b.
-      (let o : Outcome = (if b
-        then record {
-          reply = Applied (length (with_new s.follower.ops batch) - length s.follower.ops);
-          next = record s { follower = record s.follower { ops = with_new s.follower.ops batch } };
-        }
-        else refused s (NoBatch number)) in
-      IsRefusal o.reply → o.next ≡ s)) [ true ↦ λ no. absurd no | false ↦ λ yes'. refl ] h
+    (let o : Outcome = (if b
+    then record {
+      reply = Applied (length (with_new s.follower.ops batch) - length s.follower.ops);
+      next = record s { follower = record s.follower { ops = with_new s.follower.ops batch } };
+    }
+    else refused s (NoBatch number)) in
+    IsRefusal o.reply → o.next ≡ s)) [ true ↦ λ no. absurd no | false ↦ λ yes'. refl ] h
 
 pub refused_changes_nothing : (s : State) (event : Event) (reply : Reply) → IsReply s event reply → IsRefusal reply → next s event ≡ s
 unfolding write_row

@@ -58,8 +58,8 @@ pub record InvariantAt (line : List Operation) (cut : ℕ) (given : List Operati
 pub IsNumbered-push : (line : List Operation) (op : Operation) → op.seq ≡ length line → IsNumbered line → IsNumbered (line ++ op ∷ [])
 IsNumbered-push line op e numbered n x h =
     elim (slice_get-one_more line op n x h) [
-      inl a ↦ numbered n x a
-    | inr b ↦ let same : op ≡ x = b.is in let last : n ≡ length line = b.last in (sym (ap (λ (o : Operation). o.seq) same) ∙ e) ∙ sym last
+      | inl a ↦ numbered n x a
+      | inr b ↦ let same : op ≡ x = b.is in let last : n ≡ length line = b.last in (sym (ap (λ (o : Operation). o.seq) same) ∙ e) ∙ sym last
     ]
 
 IsAt-push : (line : List Operation) (op x : Operation) → IsAt line x → IsAt (line ++ op ∷ []) x
@@ -76,9 +76,9 @@ IsTrueWrite-push line op w h = All-map (IsAt line) (IsAt (line ++ op ∷ [])) w.
 read_from-true : (line : List Operation) (from : ℕ) → IsNumbered line → AllByRecursion (IsAt line) (read_from line from)
 read_from-true line from numbered =
     All-from_members (IsAt line) (read_from line from) (λ op there.
-      let p = place_of line op (IsIn-of_drop line from op (IsIn-of_take (drop from line) MOST_READ_OPERATIONS op there)) in
-      let e : op.seq ≡ p.0 = numbered p.0 op p.1 in
-      subst (λ n. slice_get line n ≡ Some op) (sym e) p.1)
+    let p = place_of line op (IsIn-of_drop line from op (IsIn-of_take (drop from line) MOST_READ_OPERATIONS op there)) in
+    let e : op.seq ≡ p.0 = numbered p.0 op p.1 in
+    subst (λ n. slice_get line n ≡ Some op) (sym e) p.1)
 
 -- ---- what a follower takes
 
@@ -87,12 +87,12 @@ pub has_number-member : (ops : List Operation) (n : ℕ) → has_number ops n �
 has_number-member [] n h = absurd (cc)
 has_number-member (op ∷ ops) n h =
     elim (op.seq == n) as (λ b. (op.seq == n) ≡ b → (other : Operation) × IsIn (op ∷ ops) other × (other.seq ≡ n)) [
-      true ↦ λ e. (op, inl refl, eqb-true op.seq n e)
-    | false ↦ λ e. let rest : has_number ops n ≡ true = (let g = rw e at h in g) in let m = has_number-member ops n rest in (m.0, inr m.1, m.2)
+      | true ↦ λ e. (op, inl refl, eqb-true op.seq n e)
+      | false ↦ λ e. let rest : has_number ops n ≡ true = (let g = rw e at h in g) in let m = has_number-member ops n rest in (m.0, inr m.1, m.2)
     ] refl
 
 taken_holds : (line ops : List Operation) (op : Operation) (b : Bool) → AllByRecursion (IsAt line) ops → IsAt line op
-  → AllByRecursion (IsAt line) (if b then ops else ops ++ op ∷ [])
+    → AllByRecursion (IsAt line) (if b then ops else ops ++ op ∷ [])
 taken_holds line ops op true all at = all
 taken_holds line ops op false all at = All-push (IsAt line) ops op all at
 
@@ -113,14 +113,14 @@ same_at line a b at_a at_b e =
     cc
 
 taken_has : (line ops : List Operation) (op : Operation) (b : Bool) → has_number ops op.seq ≡ b → AllByRecursion (IsAt line) ops → IsAt line op
-  → IsIn (if b then ops else ops ++ op ∷ []) op
+    → IsIn (if b then ops else ops ++ op ∷ []) op
 taken_has line ops op true e all at =
     let m = has_number-member ops op.seq e in
     subst (λ x. IsIn ops x) (same_at line m.0 op (All-at (IsAt line) ops m.0 all m.1) at m.2) m.1
 taken_has line ops op false e all at = IsIn-right ops (op ∷ []) op (inl refl)
 
 with_new-holds : (line ops batch : List Operation) → AllByRecursion (IsAt line) ops → AllByRecursion (IsAt line) batch
-  → AllByRecursion (IsAt line) (with_new ops batch)
+    → AllByRecursion (IsAt line) (with_new ops batch)
 with_new-holds line ops [] all batched = all
 with_new-holds line ops (op ∷ batch) all batched =
     with_new-holds line (if has_number ops op.seq then ops else ops ++ op ∷ []) batch (taken_holds line ops op (has_number ops op.seq) all batched.0) batched.1
@@ -134,32 +134,33 @@ with_new-only : (ops batch : List Operation) (x : Operation) → IsIn (with_new 
 with_new-only ops [] x there = inl there
 with_new-only ops (op ∷ batch) x there =
     elim (with_new-only (if has_number ops op.seq then ops else ops ++ op ∷ []) batch x there) [
-      inl a ↦ elim (taken_only ops op x (has_number ops op.seq) a) [ inl b ↦ inl b | inr e ↦ inr (inl e) ]
-    | inr b ↦ inr (inr b)
+      | inl a ↦ elim (taken_only ops op x (has_number ops op.seq) a) [ inl b ↦ inl b | inr e ↦ inr (inl e) ]
+      | inr b ↦ inr (inr b)
     ]
 
 with_new-has : (line ops batch : List Operation) (x : Operation) → AllByRecursion (IsAt line) ops → AllByRecursion (IsAt line) batch
-  → IsIn batch x → IsIn (with_new ops batch) x
+    → IsIn batch x → IsIn (with_new ops batch) x
 with_new-has line ops [] x all batched there = absurd there
 with_new-has line ops (op ∷ batch) x all batched (inl e) =
     with_new-keeps (if has_number ops op.seq then ops else ops ++ op ∷ []) batch x
-      (subst (λ y. IsIn (if has_number ops op.seq then ops else ops ++ op ∷ []) y) e (taken_has line ops op (has_number ops op.seq) refl all batched.0))
+    (subst (λ y. IsIn (if has_number ops op.seq then ops else ops ++ op ∷ []) y) e (taken_has line ops op (has_number ops op.seq) refl all batched.0))
 with_new-has line ops (op ∷ batch) x all batched (inr there) =
     with_new-has line (if has_number ops op.seq then ops else ops ++ op ∷ []) batch x
-      (taken_holds line ops op (has_number ops op.seq) all batched.0) batched.1 there
+    (taken_holds line ops op (has_number ops op.seq) all batched.0) batched.1 there
 
 -- what the follower holds after a batch is what it was given with the batch
 with_new-same : (line ops batch given : List Operation) → AllByRecursion (IsAt line) ops → AllByRecursion (IsAt line) batch
-  → IsSameSet (IsIn ops) (IsIn given) → IsSameSet (IsIn (with_new ops batch)) (IsIn (given ++ batch))
+    → IsSameSet (IsIn ops) (IsIn given) → IsSameSet (IsIn (with_new ops batch)) (IsIn (given ++ batch))
 with_new-same line ops batch given all batched same x = (
-    λ there. elim (with_new-only ops batch x there) [
-        inl a ↦ IsIn-left given batch x ((same x).0 a)
-      | inr b ↦ IsIn-right given batch x b
-      ],
-    λ there. elim (IsIn-append given batch x there) [
-        inl a ↦ with_new-keeps ops batch x ((same x).1 a)
-      | inr b ↦ with_new-has line ops batch x all batched b
-      ])
+  λ there. elim (with_new-only ops batch x there) [
+    | inl a ↦ IsIn-left given batch x ((same x).0 a)
+    | inr b ↦ IsIn-right given batch x b
+  ],
+  λ there. elim (IsIn-append given batch x there) [
+    | inl a ↦ with_new-keeps ops batch x ((same x).1 a)
+    | inr b ↦ with_new-has line ops batch x all batched b
+  ],
+)
 
 -- ---- each event keeps the invariant
 
@@ -180,8 +181,8 @@ All-find {X} P test (x ∷ xs) a =
     elim (test x) as (λ b. IfSome (if b then Some x else find test xs) P) [ true ↦ a.0 | false ↦ All-find P test xs a.1 ]
 
 write_keeps : (line : List Operation) (cut : ℕ) (given : List Operation) (s : State) (request : Request) → InvariantAt line cut given s
-  → InvariantAt (line ++ written_operation request (wrote_after s.leader.ops request) ∷ [])
-      (max cut (length (write_row s request).next.leader.ops)) given (write_row s request).next
+    → InvariantAt (line ++ written_operation request (wrote_after s.leader.ops request) ∷ [])
+    (max cut (length (write_row s request).next.leader.ops)) given (write_row s request).next
 unfolding write_row
 write_keeps line cut given s request inv =
     let op = written_operation request (wrote_after s.leader.ops request) in
@@ -201,7 +202,7 @@ write_keeps line cut given s request inv =
 
 -- the cut where nothing changes
 rests : (line : List Operation) (cut : ℕ) (given : List Operation) (s : State) → InvariantAt line cut given s
-  → InvariantAt line (max cut (length s.leader.ops)) given s
+    → InvariantAt line (max cut (length s.leader.ops)) given s
 rests line cut given s inv = record {
   leader = inv.leader;
   cut_is = cut_stays line cut s.leader.ops inv.leader inv.cut_is;
@@ -217,10 +218,10 @@ answer_true line s from e numbered = subst (λ ops. AllByRecursion (IsAt line) (
 
 -- the leader takes a read whose message has left
 leader_hears_keeps : (line : List Operation) (cut : ℕ) (given : List Operation) (s : State) (from : ℕ) (b : Bool) → InvariantAt line cut given s
-  → (let o : Outcome = (if b
-      then record { reply = Heard Done; next = record s { flight = s.flight ++ ReadReply from (read_from s.leader.ops from) ∷ [] } }
-      else record { reply = Heard Parked; next = record s { leader = record s.leader { polls = s.leader.polls ++ record { from = from } ∷ [] } } })
-     in InvariantAt line (max cut (length o.next.leader.ops)) given o.next)
+    → (let o : Outcome = (if b
+    then record { reply = Heard Done; next = record s { flight = s.flight ++ ReadReply from (read_from s.leader.ops from) ∷ [] } }
+    else record { reply = Heard Parked; next = record s { leader = record s.leader { polls = s.leader.polls ++ record { from = from } ∷ [] } } })
+    in InvariantAt line (max cut (length o.next.leader.ops)) given o.next)
 leader_hears_keeps line cut given s from true inv = record {
   leader = inv.leader;
   cut_is = cut_stays line cut s.leader.ops inv.leader inv.cut_is;
@@ -241,7 +242,7 @@ leader_hears_keeps line cut given s from false inv = record {
 }
 
 without : (line : List Operation) (cut : ℕ) (given : List Operation) (s : State) (at : ℕ) → InvariantAt line cut given s
-  → InvariantAt line cut given (record s { flight = remove s.flight at })
+    → InvariantAt line cut given (record s { flight = remove s.flight at })
 without line cut given s at inv = record {
   leader = inv.leader;
   cut_is = inv.cut_is;
@@ -253,8 +254,8 @@ without line cut given s at inv = record {
 }
 
 follower_hears_keeps : (line : List Operation) (cut : ℕ) (given : List Operation) (s : State) (from : ℕ) (ops : List Operation) → InvariantAt line cut given s
-  → AllByRecursion (IsAt line) ops
-  → InvariantAt line (max cut (length (follower_hears s from ops).next.leader.ops)) given (follower_hears s from ops).next
+    → AllByRecursion (IsAt line) ops
+    → InvariantAt line (max cut (length (follower_hears s from ops).next.leader.ops)) given (follower_hears s from ops).next
 follower_hears_keeps line cut given s from ops inv true_ops = record {
   leader = inv.leader;
   cut_is = cut_stays line cut s.leader.ops inv.leader inv.cut_is;
@@ -266,8 +267,8 @@ follower_hears_keeps line cut given s from ops inv true_ops = record {
 }
 
 deliver_keeps : (line : List Operation) (cut : ℕ) (given : List Operation) (s : State) (at : ℕ) (found : Option Message) → InvariantAt line cut given s
-  → IfSome found (IsTrueMessage line)
-  → InvariantAt line (max cut (length (deliver_row s at found).next.leader.ops)) given (deliver_row s at found).next
+    → IfSome found (IsTrueMessage line)
+    → InvariantAt line (max cut (length (deliver_row s at found).next.leader.ops)) given (deliver_row s at found).next
 unfolding deliver_row
 deliver_keeps line cut given s at None inv true_found = rests line cut given s inv
 deliver_keeps line cut given s at (Some (ReadRequest from)) inv true_found =
@@ -276,22 +277,22 @@ deliver_keeps line cut given s at (Some (ReadReply from ops)) inv true_found =
     follower_hears_keeps line cut given (record s { flight = remove s.flight at }) from ops (without line cut given s at inv) true_found
 
 wake_keeps : (line : List Operation) (cut : ℕ) (given : List Operation) (s : State) (at : ℕ) (found : Option Poll) → InvariantAt line cut given s
-  → InvariantAt line (max cut (length (wake_row s at found).next.leader.ops)) given (wake_row s at found).next
+    → InvariantAt line (max cut (length (wake_row s at found).next.leader.ops)) given (wake_row s at found).next
 unfolding wake_row
 wake_keeps line cut given s at None inv = rests line cut given s inv
 wake_keeps line cut given s at (Some poll) inv =
     elim (nat_lt poll.from (length s.leader.ops)) as (λ b.
-      let o : Outcome = (if b
-        then record {
-          reply = Heard Done;
-          next = record s {
-            leader = record s.leader { polls = remove s.leader.polls at };
-            flight = s.flight ++ ReadReply poll.from (read_from s.leader.ops poll.from) ∷ [];
-          };
-        }
-        else refused s (Wait (length s.leader.ops))) in
-      InvariantAt line (max cut (length o.next.leader.ops)) given o.next) [
-      true ↦ record {
+    let o : Outcome = (if b
+    then record {
+      reply = Heard Done;
+      next = record s {
+        leader = record s.leader { polls = remove s.leader.polls at };
+        flight = s.flight ++ ReadReply poll.from (read_from s.leader.ops poll.from) ∷ [];
+      };
+    }
+    else refused s (Wait (length s.leader.ops))) in
+    InvariantAt line (max cut (length o.next.leader.ops)) given o.next) [
+      | true ↦ record {
         leader = inv.leader;
         cut_is = cut_stays line cut s.leader.ops inv.leader inv.cut_is;
         numbered = inv.numbered;
@@ -300,11 +301,11 @@ wake_keeps line cut given s at (Some poll) inv =
         held = inv.held;
         same = inv.same;
       }
-    | false ↦ rests line cut given s inv
+      | false ↦ rests line cut given s inv
     ]
 
 take_keeps : (line : List Operation) (cut : ℕ) (given : List Operation) (s : State) (number : ℕ) (found : Option OutstandingWrite) → InvariantAt line cut given s
-  → InvariantAt line (max cut (length (take_row s number found).next.leader.ops)) given (take_row s number found).next
+    → InvariantAt line (max cut (length (take_row s number found).next.leader.ops)) given (take_row s number found).next
 unfolding take_row
 take_keeps line cut given s number None inv = rests line cut given s inv
 take_keeps line cut given s number (Some w) inv = rests line cut given s inv
@@ -314,47 +315,47 @@ given-batch : (line batch : List Operation) → AllByRecursion (IsAt line) batch
 given-batch line batch all = filter_map-same (λ (op : Operation). slice_get line op.seq) batch all
 
 apply_keeps : (line : List Operation) (cut : ℕ) (given : List Operation) (s : State) (number : ℕ) (batch : List Operation) (found : Option OutstandingWrite)
-  → InvariantAt line cut given s → IfSome found (IsTrueWrite line)
-  → InvariantAt line (max cut (length (apply_row s number batch found).next.leader.ops))
-      (given_after line given (Apply number batch) (apply_row s number batch found).reply) (apply_row s number batch found).next
+    → InvariantAt line cut given s → IfSome found (IsTrueWrite line)
+    → InvariantAt line (max cut (length (apply_row s number batch found).next.leader.ops))
+    (given_after line given (Apply number batch) (apply_row s number batch found).reply) (apply_row s number batch found).next
 unfolding apply_row
 apply_keeps line cut given s number batch None inv true_found = rests line cut given s inv
 apply_keeps line cut given s number batch (Some w) inv true_found =
     elim (same_operations w.batch batch) as (λ b. same_operations w.batch batch ≡ b →
-      (let o : Outcome = (if b
-        then record {
-          reply = Applied (length (with_new s.follower.ops batch) - length s.follower.ops);
-          next = record s { follower = record s.follower { ops = with_new s.follower.ops batch } };
-        }
-        else refused s (NoBatch number)) in
-      InvariantAt line (max cut (length o.next.leader.ops)) (given_after line given (Apply number batch) o.reply) o.next)) [
-      true ↦ λ e.
-        let true_batch : AllByRecursion (IsAt line) batch = subst (λ ops. AllByRecursion (IsAt line) ops) (same_operations-equal w.batch batch e) true_found in
-        record {
-          leader = inv.leader;
-          cut_is = cut_stays line cut s.leader.ops inv.leader inv.cut_is;
-          numbered = inv.numbered;
-          flight = inv.flight;
-          writes = inv.writes;
-          held = with_new-holds line s.follower.ops batch inv.held true_batch;
-          same = subst (λ xs. IsSameSet (IsIn (with_new s.follower.ops batch)) (IsIn (given ++ xs))) (sym (given-batch line batch true_batch))
-            (with_new-same line s.follower.ops batch given inv.held true_batch inv.same);
-        }
-    | false ↦ λ e. rests line cut given s inv
+    (let o : Outcome = (if b
+    then record {
+      reply = Applied (length (with_new s.follower.ops batch) - length s.follower.ops);
+      next = record s { follower = record s.follower { ops = with_new s.follower.ops batch } };
+    }
+    else refused s (NoBatch number)) in
+    InvariantAt line (max cut (length o.next.leader.ops)) (given_after line given (Apply number batch) o.reply) o.next)) [
+      | true ↦ λ e.
+          let true_batch : AllByRecursion (IsAt line) batch = subst (λ ops. AllByRecursion (IsAt line) ops) (same_operations-equal w.batch batch e) true_found in
+          record {
+            leader = inv.leader;
+            cut_is = cut_stays line cut s.leader.ops inv.leader inv.cut_is;
+            numbered = inv.numbered;
+            flight = inv.flight;
+            writes = inv.writes;
+            held = with_new-holds line s.follower.ops batch inv.held true_batch;
+            same = subst (λ xs. IsSameSet (IsIn (with_new s.follower.ops batch)) (IsIn (given ++ xs))) (sym (given-batch line batch true_batch))
+                (with_new-same line s.follower.ops batch given inv.held true_batch inv.same);
+          }
+      | false ↦ λ e. rests line cut given s inv
     ] refl
 
 pub keeps_event : (p : Past) (event : Event) (reply : Reply) → InvariantAt p.line p.cut p.given p.state → IsReply p.state event reply
-  → InvariantAt (line_after p.line event reply) (max p.cut (length (next p.state event).leader.ops)) (given_after p.line p.given event reply) (next p.state event)
+    → InvariantAt (line_after p.line event reply) (max p.cut (length (next p.state event).leader.ops)) (given_after p.line p.given event reply) (next p.state event)
 unfolding write_row
 keeps_event p (Write request) reply inv e =
     subst (λ r. InvariantAt (line_after p.line (Write request) r) (max p.cut (length (next p.state (Write request)).leader.ops)) (given_after p.line p.given (Write request) r) (next p.state (Write request)))
-      (sym e) (write_keeps p.line p.cut p.given p.state request inv)
+    (sym e) (write_keeps p.line p.cut p.given p.state request inv)
 keeps_event p (Deliver at) reply inv e =
     deliver_keeps p.line p.cut p.given p.state at (slice_get p.state.flight at) inv (All-if_some (IsTrueMessage p.line) p.state.flight at inv.flight)
 keeps_event p (Wake at) reply inv e = wake_keeps p.line p.cut p.given p.state at (slice_get p.state.leader.polls at) inv
 keeps_event p (Take number) reply inv e = take_keeps p.line p.cut p.given p.state number (write_at p.state number) inv
 keeps_event p (Apply number batch) reply inv e =
     subst (λ r. InvariantAt p.line (max p.cut (length (next p.state (Apply number batch)).leader.ops)) (given_after p.line p.given (Apply number batch) r) (next p.state (Apply number batch)))
-      (sym e)
-      (apply_keeps p.line p.cut p.given p.state number batch (write_at p.state number) inv (All-find (IsTrueWrite p.line) (λ (w : OutstandingWrite). w.number == number) p.state.follower.writes inv.writes))
+    (sym e)
+    (apply_keeps p.line p.cut p.given p.state number batch (write_at p.state number) inv (All-find (IsTrueWrite p.line) (λ (w : OutstandingWrite). w.number == number) p.state.follower.writes inv.writes))
 keeps_event p (Search side) reply inv e = rests p.line p.cut p.given p.state inv

@@ -64,7 +64,13 @@ fn same_kinds(a: &Kind, b: &Kind) -> bool
     ensures { result ≡ same_kind a.now b.now }
 {
     match (a, b) {
-        (Kind::Index { id, body }, Kind::Index { id: other, body: text }) => id == other && body.is(text),
+        (
+            Kind::Index { id, body },
+            Kind::Index {
+                id: other,
+                body: text,
+            },
+        ) => id == other && body.is(text),
         (Kind::Delete { id }, Kind::Delete { id: other }) => id == other,
         (Kind::NoOp, Kind::NoOp) => true,
         _ => false,

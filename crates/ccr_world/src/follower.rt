@@ -1,12 +1,11 @@
 ghost use Rattle.std.specs.Prelude.{◌≡◌, ◌++◌, ◌∷◌, ◌+◌, ◌-◌, ◌==◌, [], length, find, IfOk, OnOk, OnErr, option_copied};
 ghost use Rattle.ccr_world.specs.Rows.{with_new};
 
+use crate::copies::HeldOperations;
+use crate::events::{Batch, OutstandingWrite};
 use ccr_op::Op;
 use std::alloc::{AllocError, Global};
 use std::marker::Model;
-
-use crate::copies::HeldOperations;
-use crate::events::{Batch, OutstandingWrite};
 
 /// The follower copy and its task: the operations that it has, and the batches that it is to apply.
 #[derive(Drop)]
@@ -46,8 +45,9 @@ impl Follower {
     /// Makes the operations of a reply the next write.
     pub fn receive(&mut self, ops: Batch) -> Result<(), AllocError>
         ensures { OnOk result (self.new ≡ record self.old {
-            next_write = self.old.next_write + 1;
-            writes = self.old.writes ++ record { number = self.old.next_write; batch = ops } ∷ [] }) }
+          next_write = self.old.next_write + 1;
+          writes = self.old.writes ++ record { number = self.old.next_write; batch = ops } ∷ [];
+        }) }
     {
         let number = self.next_write;
         let Some(next) = number.checked_add(1) else {

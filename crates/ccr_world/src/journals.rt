@@ -1,10 +1,9 @@
 ghost use Rattle.std.specs.Prelude.{◌≡◌, ◌+◌, ◌<◌, ◌++◌, ◌∷◌, ◌==◌, [], length, IfOk, OnOk, OnErr, option_copied, slice_get};
 
-use std::alloc::{AllocError, Global};
-use std::marker::Model;
-
 use crate::events::Event;
 use crate::replies::Reply;
+use std::alloc::{AllocError, Global};
+use std::marker::Model;
 
 /// An event with its reply.
 #[derive(Debug, Drop)]

@@ -13,11 +13,9 @@ ghost use Rattle.ccr_world.specs.declared.replies.Reply.{Reply};
 pub fn every_place()
     ensures headline { (entries : List Entry) → IsLegal start_state entries → Headline start_past entries }
     ensures refused { (s : State) (event : Event) (reply : Reply) → IsReply s event reply → IsRefusal reply → next s event ≡ s }
-{
-}
+{}
 
 /// The worked example: one write travels to the follower and is found there, with these replies.
 pub fn first_path_example()
     ensures { IsLegal start_state first_path }
-{
-}
+{}

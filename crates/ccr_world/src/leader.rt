@@ -2,14 +2,13 @@ ghost use Rattle.std.specs.Prelude.{◌≡◌, ◌++◌, ◌∷◌, ◌<◌, ◌
 ghost use Rattle.ccr_world.specs.Rows.{read_from, written_operation, wrote_after};
 ghost use Rattle.ccr_world.specs.State.{LeaderState};
 
-use ccr_op::{Count, Op};
-use std::alloc::{AllocError, Global};
-use std::marker::Model;
-
 use crate::MOST_READ_OPERATIONS;
 use crate::copies::HeldOperations;
 use crate::events::{Batch, Poll, WriteRequest, copy_ops};
 use crate::replies::{WriteResult, Wrote};
+use ccr_op::{Count, Op};
+use std::alloc::{AllocError, Global};
+use std::marker::Model;
 
 /// The leader copy: the history of the shard, and the reads that wait for more of it.
 #[derive(Drop)]
@@ -61,7 +60,8 @@ impl Leader {
     pub fn write(&mut self, alloc: Global, request: &WriteRequest) -> Result<Wrote, AllocError>
         ensures reply { IfOk result (λ wrote. wrote ≡ wrote_after self.old.ops request.now) }
         ensures after { IfOk result (λ wrote. self.new ≡ record self.old {
-            ops = self.old.ops ++ written_operation request.now wrote ∷ [] }) }
+          ops = self.old.ops ++ written_operation request.now wrote ∷ [];
+        }) }
     {
         let wrote = next_write(&self.held, request)?;
         let id = request.id().copy(alloc)?;

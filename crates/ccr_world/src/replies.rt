@@ -1,10 +1,9 @@
 ghost use Rattle.std.specs.Prelude.{◌≡◌, IfOk, take};
 
+use crate::events::Batch;
 use ccr_op::{Body, Count, DocId, Term};
 use std::alloc::{AllocError, Global};
 use std::marker::Model;
-
-use crate::events::Batch;
 
 /// Whether a write found a live document of its id.
 #[derive(Clone, Copy, Debug, PartialEq, Eq)]

@@ -3,14 +3,13 @@ ghost use Rattle.ccr_world.specs.Rows.{apply_row, deliver_row, follower_hears, l
 ghost use Rattle.ccr_world.specs.State.{State, start_state};
 ghost use Rattle.ccr_world.specs.Step.{FindsOver, IsReply, next, operations_of};
 
-use ccr_op::Count;
-use std::alloc::{AllocError, Global};
-use std::marker::Model;
-
 use crate::events::{Batch, Event, Message, Side, WriteRequest};
 use crate::follower::Follower;
 use crate::leader::Leader;
 use crate::replies::{Heard, Refusal, Reply};
+use ccr_op::Count;
+use std::alloc::{AllocError, Global};
+use std::marker::Model;
 
 /// The state of a shard world: both copies and the messages in flight, oldest first.
 #[derive(Drop)]

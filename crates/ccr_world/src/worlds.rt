@@ -2,13 +2,12 @@ ghost use Rattle.std.specs.Prelude.{◌≡◌, ◌++◌, ◌∷◌, [], true, fa
 ghost use Rattle.ccr_world.specs.State.{start_state};
 ghost use Rattle.ccr_world.specs.Step.{IsLegal, IsRefusal, IsReply, state_after};
 
-use std::alloc::{AllocError, Global};
-use std::marker::Model;
-
 use crate::events::Event;
 use crate::journals::{Entry, Journal};
 use crate::replies::Reply;
 use crate::shard::Shard;
+use std::alloc::{AllocError, Global};
+use std::marker::Model;
 
 /// One shard world with its journal. After want of memory it is broken: the journal stays as it was
 /// before that event, and each later step is answered want of memory too.
@@ -51,7 +50,8 @@ impl World {
     #[tactic(auto, using(crate::proofs::Recording::recording))]
     pub fn step(&mut self, event: &Event) -> Result<Reply, AllocError>
         ensures entry { IfOk result (λ reply. self.new ≡ record self.old {
-            journal = self.old.journal ++ record { event = event.now; reply = reply } ∷ [] }) }
+          journal = self.old.journal ++ record { event = event.now; reply = reply } ∷ [];
+        }) }
         ensures reply { IfOk result (λ reply. IsReply (state_after start_state self.old.journal) event.now reply) }
         ensures refused { IfOk result (λ reply. IsRefusal reply →
             state_after start_state self.new.journal ≡ state_after start_state self.old.journal) }
@@ -67,10 +67,7 @@ impl World {
         let kept = event.copy(self.alloc)?;
         let reply = self.shard.step(event)?;
         let answer = reply.copy(self.alloc)?;
-        self.journal.push(Entry {
-            event: kept,
-            reply,
-        })?;
+        self.journal.push(Entry { event: kept, reply })?;
         self.broken = false;
         Ok(answer)
     }

@@ -1,5 +1,4 @@
-use Rattle.std.proofs.Common.{rules, arith, max, ◌∙◌, ap}
-use Rattle.std.proofs.lemmas.Grind.{common_steps}
+use Rattle.std.proofs.Common.{max, ◌∙◌, ap}
 use Rattle.ccr_insync.specs.Members.{least_known}
 use Rattle.ccr_insync.proofs.Kept.{left_left}
 use Rattle.ccr_insync.proofs.InSync.fail_copy.Goals as goal

@@ -1,6 +1,5 @@
-use Rattle.std.proofs.Common.{rules, arith, max, ◌∙◌, ap}
+use Rattle.std.proofs.Common.{rules, arith}
 use Rattle.std.proofs.lemmas.Grind.{common_steps}
-use Rattle.ccr_insync.specs.Members.{least_known}
 use Rattle.ccr_insync.proofs.Kept.{resynced_left}
 use Rattle.ccr_insync.proofs.InSync.resynced.Goals as goal
 

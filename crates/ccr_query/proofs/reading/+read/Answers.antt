@@ -1,9 +1,9 @@
-use Rattle.std.proofs.Common.{◌≡◌, Bool, true, false, codes, Ok, Err, IfOk, IfErr, refl, sym, ap, ◌∙◌, subst, arith, rules}
+use Rattle.std.proofs.Common.{◌≡◌, true, false, codes, Ok, Err, IfOk, IfErr, sym, ap, ◌∙◌, subst, arith, rules}
 use Rattle.std.specs.Prelude.{◌≢◌}
 use Rattle.std.specs.Str.{bytes_eq}
 use Rattle.serde_json.specs.View.{view, items_view}
 use Rattle.ccr_query.specs.declared.reading.BadQuery.TheVariants.{Memory}
-use Rattle.ccr_query.specs.Bools.{after, query_of, bool_of, queries_of}
+use Rattle.ccr_query.specs.Bools.{after, queries_of}
 use Rattle.ccr_query.specs.Queries.{condition}
 use Rattle.ccr_query.proofs.Readings.{read_one, read_all, query_of_bool, query_of_condition}
 use Rattle.ccr_query.proofs.reading.+read.Goals as goal

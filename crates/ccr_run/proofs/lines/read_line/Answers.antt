@@ -7,21 +7,21 @@ returns-then-len-gt-MOST_LINE_BYTES-clause-too_long g c _ =
     let long : 1048576 < length c.give.new.line.items = omega arith in
     let ended : c.give.result ≡ Ok true = cc in
     given-over _ _ _ _ long
-      (line-ends _ (g.S.Source.left c.pieces.from) c.pieces.chunk c.give.new.self c.pieces.bytes.items c.give.new.line.items
-        c.pieces.invariant.plain c.pieces.invariant.taken (c.give.ensures.ended ended))
+    (line-ends _ (g.S.Source.left c.pieces.from) c.pieces.chunk c.give.new.self c.pieces.bytes.items c.give.new.line.items
+    c.pieces.invariant.plain c.pieces.invariant.taken (c.give.ensures.ended ended))
 
 pub returns-in-Ok-true-clause-line : goal.returns-in-Ok-true-clause-line
 returns-in-Ok-true-clause-line g c =
     let ended : c.give.result ≡ Ok true = cc in
     line-ends _ (g.S.Source.left c.pieces.from) c.pieces.chunk c.give.new.self c.pieces.bytes.items c.give.new.line.items
-      c.pieces.invariant.plain c.pieces.invariant.taken (c.give.ensures.ended ended)
+    c.pieces.invariant.plain c.pieces.invariant.taken (c.give.ensures.ended ended)
 
 pub returns-then-len-gt-MOST_LINE_BYTES-2-clause-too_long : goal.returns-then-len-gt-MOST_LINE_BYTES-2-clause-too_long
 returns-then-len-gt-MOST_LINE_BYTES-2-clause-too_long g c _ =
     let long : 1048576 < length c.give.new.line.items = omega arith in
     let went : c.give.result ≡ Ok false = cc in
     let on = goes-on _ (g.S.Source.left c.pieces.from) c.pieces.chunk c.give.new.self c.pieces.bytes.items c.give.new.line.items
-      c.pieces.invariant.plain c.pieces.invariant.taken (c.give.ensures.goes_on went) in
+    c.pieces.invariant.plain c.pieces.invariant.taken (c.give.ensures.goes_on went) in
     line-over _ _ c.give.new.line.items _ on.0 long on.1
 
 pub returns-then-not-branch-clause-line : goal.returns-then-not-branch-clause-line
@@ -29,5 +29,5 @@ returns-then-not-branch-clause-line g c =
     let went : c.give.result ≡ Ok false = cc in
     let end = c.in_ok-has_more.ensures.end (ap (λ b. Ok b) c.if-not-branch.true) in
     line-finishes _ (g.S.Source.left c.pieces.from) (g.S.Source.left c.has_more.new.from) c.pieces.chunk c.give.new.self c.has_more.new.chunk c.pieces.bytes.items c.give.new.line.items
-      c.pieces.invariant.plain c.pieces.invariant.taken c.pieces.invariant.begun (c.give.ensures.goes_on went)
-      c.in_ok-has_more.ensures.rest end.0 end.1
+    c.pieces.invariant.plain c.pieces.invariant.taken c.pieces.invariant.begun (c.give.ensures.goes_on went)
+    c.in_ok-has_more.ensures.rest end.0 end.1

@@ -5,5 +5,6 @@ use Rattle.ccr_run.proofs.chunks.Chunk.is_empty.Goals as goal
 
 pub returns : goal.returns
 returns c = (
-    λ h. sym c.self.view_is ∙ part-empty _ _ _ c.self.invariant.ordered c.self.invariant.within (eqb-true _ _ h),
-    λ h. eq-eqb _ _ (empty-part _ _ _ c.self.invariant.ordered c.self.invariant.within (c.self.view_is ∙ h)))
+  λ h. sym c.self.view_is ∙ part-empty _ _ _ c.self.invariant.ordered c.self.invariant.within (eqb-true _ _ h),
+  λ h. eq-eqb _ _ (empty-part _ _ _ c.self.invariant.ordered c.self.invariant.within (c.self.view_is ∙ h)),
+)

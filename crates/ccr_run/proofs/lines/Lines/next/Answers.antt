@@ -9,5 +9,5 @@ returns-then-self-eq-MOST_LINES-clause-too_many g c _ =
     let number : c.self.inside.number ≡ c.args.self.now.number = ap (λ r. r.number) c.self.view_is in
     let pending : c.self.inside.chunk ≡ c.args.self.now.pending = ap (λ r. r.pending) c.self.view_is in
     let here : HasLine (rest_of c.self.inside.chunk (g.S.Source.left c.args.from.now)) =
-      subst (λ o. HasLine o) c.in_ok-has_more.ensures.rest (has-line c.has_more.new.chunk (g.S.Source.left c.has_more.new.from) some) in
+    subst (λ o. HasLine o) c.in_ok-has_more.ensures.rest (has-line c.has_more.new.chunk (g.S.Source.left c.has_more.new.from) some) in
     (subst (λ xs. HasLine (rest_of xs (g.S.Source.left c.args.from.now))) pending here, omega arith)
