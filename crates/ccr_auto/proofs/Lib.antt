@@ -1,4 +1,0 @@
-pub mod Falling
-pub mod Markers
-pub mod Matching
-pub mod Ordered
