@@ -5,3 +5,4 @@ pub mod Joins
 pub mod Parts
 pub mod Runs
 pub mod Forms
+pub mod Deeds

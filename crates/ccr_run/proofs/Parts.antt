@@ -1,10 +1,9 @@
 -- parts of a chunk, and the lines of a text
-use Rattle.std.proofs.Common.{◌≡◌, ℕ, zero, suc, ◌+◌, ◌-◌, ◌<◌, ◌≤◌, Bool, true, false, List, [], ◌∷◌, ◌++◌, length, take, drop, get_or, refl, ap, subst, sym, ◌∙◌, arith, length-drop, length-append, append_assoc}
-use Rattle.std.specs.Prelude.{◌≢◌, is_some, ◌==◌, ◌↔◌, IsTrue, Option, Some, None, if◌then◌else◌}
-use Rattle.std.specs.List.{AllByRecursion}
+use Rattle.std.proofs.Common.{◌≡◌, ℕ, ◌+◌, ◌<◌, ◌≤◌, Bool, true, false, List, [], ◌∷◌, ◌++◌, length, take, refl, ap, subst, sym, ◌∙◌, arith, length-drop, length-append, append_assoc}
+use Rattle.std.specs.Prelude.{◌≢◌, is_some, ◌==◌, Option, Some, None, if◌then◌else◌}
 use Rattle.std.proofs.lemmas.List.{length-take-le}
 use Rattle.std.specs.Io.KnownBytes.{Consumes, IsAtEnd}
-use Rattle.ccr_run.specs.Lines.{before_lines, lines_of, rest_of, IsPlain, BreaksAt, EndsLine, GoesOn, GivesLine, FirstLineIsOver, HasLine}
+use Rattle.ccr_run.specs.Lines.{before_lines, ended_lines, lines_of, rest_of, IsPlain, BreaksOff, EndsLine, GoesOn, GivesEnded, GivesLine, FirstLineIsOver, HasLine}
 use Rattle.ccr_run.specs.Reader.{part_of}
 
 nil_from_length : (xs : List ℕ) → length xs ≡ 0 → xs ≡ []
@@ -82,6 +81,50 @@ line-ends (Some whole) (Some rest) old new before after plain taken g =
     (e ∙ ap (λ xs. before ++ (xs ++ rest)) g.rest) ∙ (ap (λ xs. before ++ xs) (append_assoc g.piece (10 ∷ new) rest) ∙ sym (append_assoc before g.piece (10 ∷ (new ++ rest)))) in
     (ap lines_of whole_is ∙ lines-ended (before ++ g.piece) (new ++ rest) plain_after) ∙ ap (λ xs. xs ∷ lines_of (new ++ rest)) (sym g.taken)
 
+-- the line ended at a line feed
+pub line-ended : (all : Option (List ℕ)) (left : Option (List ℕ)) (old new before after : List ℕ) → IsPlain before → Consumes all (rest_of old left) before
+    → EndsLine old new before after → GivesEnded all (rest_of new left) after
+line-ended None left old new before after plain taken g = tt
+line-ended (Some whole) None old new before after plain taken g = taken
+line-ended (Some whole) (Some rest) old new before after plain taken g =
+    let e : whole ≡ before ++ (old ++ rest) = taken in
+    let plain_after : IsPlain (before ++ g.piece) = IsPlain-append before g.piece plain g.plain in
+    let whole_is : whole ≡ (before ++ g.piece) ++ 10 ∷ (new ++ rest) =
+    (e ∙ ap (λ xs. before ++ (xs ++ rest)) g.rest) ∙ (ap (λ xs. before ++ xs) (append_assoc g.piece (10 ∷ new) rest) ∙ sym (append_assoc before g.piece (10 ∷ (new ++ rest)))) in
+    subst (λ xs. IsPlain xs × (whole ≡ xs ++ 10 ∷ (new ++ rest))) (sym g.taken) (plain_after, whole_is)
+
+-- a line that goes over all bytes at hand breaks off where no more come
+pub breaks-off : (all left left' : Option (List ℕ)) (old mid new before after : List ℕ) → IsPlain before → Consumes all (rest_of old left) before
+    → GoesOn old mid before after → rest_of new left' ≡ rest_of mid left → new ≡ [] → BreaksOff all left'
+breaks-off all left left' old mid new before after plain taken g same none =
+    let on = goes-on all left old mid before after plain taken g in
+    let taken_all : Consumes all (rest_of new left') after = subst (λ rest. Consumes all rest after) (sym same) on.1 in
+    let taken_none : Consumes all (rest_of [] left') after = subst (λ xs. Consumes all (rest_of xs left') after) none taken_all in
+    broken all left' on.0 taken_none
+  where
+    broken : (all left : Option (List ℕ)) → IsPlain after → Consumes all (rest_of [] left) after → BreaksOff all left
+    broken None left p t = tt
+    broken (Some whole) None p t = t
+    broken (Some whole) (Some rest) p t = (after, p, t)
+
+-- so does one that has no byte yet
+pub breaks-before : (left left' : Option (List ℕ)) (old new : List ℕ) → rest_of new left' ≡ rest_of old left → new ≡ [] → BreaksOff (rest_of old left) left'
+breaks-before left left' old new same none = subst (λ rest. BreaksOff rest left') same (subst (λ xs. BreaksOff (rest_of xs left') left') (sym none) (broken left'))
+  where
+    broken : (left : Option (List ℕ)) → BreaksOff (rest_of [] left) left
+    broken None = tt
+    broken (Some rest) = ([], tt, refl)
+
+-- ---- the lines that end in a text
+
+pub ended-feed : (line rest : List ℕ) → IsPlain line → ended_lines (line ++ 10 ∷ rest) ≡ line ∷ ended_lines rest
+ended-feed [] rest plain = refl
+ended-feed (b ∷ line) rest plain = rw (plain.0, ended-feed line rest plain.1) refl
+
+pub ended-plain : (piece : List ℕ) → IsPlain piece → ended_lines piece ≡ []
+ended-plain [] plain = refl
+ended-plain (b ∷ piece) plain = rw (plain.0, ended-plain piece plain.1) refl
+
 -- the line ends at the end
 pub line-last : (all : Option (List ℕ)) (left : Option (List ℕ)) (bytes : List ℕ) → IsPlain bytes → bytes ≢ [] → Consumes all (rest_of [] left) bytes → IsAtEnd left
     → GivesLine all (rest_of [] left) bytes
@@ -151,4 +194,4 @@ line-finishes all left left' old mid new before after plain taken some g same no
     subst (λ xs. GivesLine all (rest_of xs left') after) (sym none)
     (line-last all left' after on.0 (not-nil before old after some g.taken) taken_none end)
 
-pub ruleset reading = (goes-on, line-ends, line-last, line-over, given-over, has-line, rest-same, consumes-none, at-end)
+pub ruleset reading = (goes-on, line-ends, line-ended, breaks-before, line-last, line-over, given-over, has-line, rest-same, consumes-none, at-end)

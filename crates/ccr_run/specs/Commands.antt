@@ -4,14 +4,14 @@ use Rattle.std.specs.List.{list_any, list_all}
 use Rattle.std.specs.Str.{bytes_eq, is_utf8}
 use Rattle.serde_json.specs.Data.{Data, Members, no_members, member}
 use Rattle.serde_json.specs.Read.{read}
-use Rattle.serde_json.specs.Find.{get, as_str, as_number, as_object, as_u64, as_i64}
+use Rattle.serde_json.specs.Find.{get, as_str, as_bool, as_number, as_object, as_u64, as_i64}
 use Rattle.serde_json.specs.Written.{compact_text}
 use Rattle.ccr_world.specs.declared.events.Side.{Side}
 use Rattle.ccr_world.specs.declared.events.Side.TheVariants as side
 use Rattle.ccr_run.specs.declared.commands.Command.{Command}
-use Rattle.ccr_run.specs.declared.commands.Command.TheVariants.{Write, Wake, Deliver, Apply, Search}
-use Rattle.ccr_run.specs.declared.commands.BadLine.{BadLine}
-use Rattle.ccr_run.specs.declared.commands.BadLine.TheVariants.{NotJson, NoOp, BadField}
+use Rattle.ccr_run.specs.declared.commands.Command.TheVariants.{Write, Wake, Deliver, Apply, Written, Search}
+use Rattle.ccr_run.specs.declared.bad_lines.BadLine.{BadLine}
+use Rattle.ccr_run.specs.declared.bad_lines.BadLine.TheVariants.{NotJson, NoOp, BadField}
 
 -- the line has spaces and tabs alone
 abbrev pub is_blank : List ℕ → Bool
@@ -30,6 +30,14 @@ small n = if nat_lt n (2 ^ 53) then Some n else None
 
 unfoldable pub number_at : List ℕ → Data → Option ℕ
 number_at name d = option_and_then small (option_and_then as_u64 (option_and_then as_number (get name d)))
+
+-- the number under a name, and this one where there is no such field
+unfoldable pub number_or : ℕ → List ℕ → Data → Option ℕ
+number_or default name d = if is_some (get name d) then number_at name d else Some default
+
+-- the truth value under a name, and this one where there is no such field
+unfoldable pub truth_or : Bool → List ℕ → Data → Option Bool
+truth_or default name d = if is_some (get name d) then option_and_then as_bool (get name d) else Some default
 
 -- the leader's index is a/l, and the follower's b/f
 unfoldable pub side_of : List ℕ → Option Side
@@ -94,19 +102,34 @@ write_of d =
     else None
 
 unfoldable pub wake_of : Data → Option Command
-wake_of d = if has_fields (codes "op" ∷ codes "index" ∷ []) d && is_follower (side_at d) then Some Wake else None
+wake_of d =
+    if has_fields (codes "op" ∷ codes "index" ∷ codes "at" ∷ []) d && is_follower (side_at d)
+    then option_map Wake (number_or 0 (codes "at") d)
+    else None
+
+abbrev pub with_place : Option ℕ → Option Bool → Option Command
+with_place None keep = None
+with_place (Some at) None = None
+with_place (Some at) (Some keep) = Some (Deliver at keep)
 
 unfoldable pub deliver_of : Data → Option Command
 deliver_of d =
-    if has_fields (codes "op" ∷ codes "index" ∷ codes "at" ∷ []) d && is_some (side_at d)
-    then option_map Deliver (number_at (codes "at") d)
+    if has_fields (codes "op" ∷ codes "index" ∷ codes "at" ∷ codes "keep" ∷ []) d && is_some (side_at d)
+    then with_place (number_at (codes "at") d) (truth_or false (codes "keep") d)
     else None
 
-unfoldable pub apply_of : Data → Option Command
-apply_of d =
+-- the number of a write, for a command of the follower that has no other field
+unfoldable pub write_number_of : Data → Option ℕ
+write_number_of d =
     if has_fields (codes "op" ∷ codes "index" ∷ codes "write" ∷ []) d && is_follower (side_at d)
-    then option_map Apply (number_at (codes "write") d)
+    then number_at (codes "write") d
     else None
+
+abbrev pub apply_of : Data → Option Command
+apply_of d = option_map Apply (write_number_of d)
+
+abbrev pub written_of : Data → Option Command
+written_of d = option_map Written (write_number_of d)
 
 unfoldable pub search_of : Data → Option Command
 search_of d = if has_fields (codes "op" ∷ codes "index" ∷ []) d then option_map Search (side_at d) else None
@@ -122,8 +145,9 @@ named_command name d =
     else (if bytes_eq name (codes "wake") then or_bad_field (wake_of d)
     else (if bytes_eq name (codes "deliver") then or_bad_field (deliver_of d)
     else (if bytes_eq name (codes "apply") then or_bad_field (apply_of d)
+    else (if bytes_eq name (codes "written") then or_bad_field (written_of d)
     else (if bytes_eq name (codes "search") then or_bad_field (search_of d)
-    else Err NoOp))))
+    else Err NoOp)))))
 
 abbrev pub with_operation : Option (List ℕ) → Data → Result (Option Command) BadLine
 with_operation None d = Err NoOp

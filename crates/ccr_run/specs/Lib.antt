@@ -2,8 +2,11 @@ pub mod Commands
 pub mod Answers
 pub mod Lines
 pub mod Reader
+pub mod Printed
 pub mod Script
+pub mod Played
 pub mod Turns
+pub mod Deeds
 pub mod Stops
 pub mod Replay
 pub mod Codes

@@ -1,4 +1,4 @@
-use Rattle.ccr_run.specs.declared.commands.BadLine.{BadLine}
+use Rattle.ccr_run.specs.declared.bad_lines.BadLine.{BadLine}
 use Rattle.ccr_run.specs.declared.playing.Stop.{Stop}
 use Rattle.ccr_run.specs.declared.playing.Stop.TheVariants.{Bad, Write, Memory}
 

@@ -1,11 +1,10 @@
-//! The lines of output.
-ghost use Rattle.std.specs.Prelude.{◌≡◌, ◌≢◌, IfOk, OnOk, string_bytes, map, ◌++◌, nat_lt};
+//! The texts of the answers.
+ghost use Rattle.std.specs.Prelude.{◌≡◌, IfOk, OnOk, string_bytes, map, ◌++◌, nat_lt};
 ghost use Rattle.std.specs.List.{join_with_byte};
 ghost use Rattle.serde_json.specs.Data.{string};
 ghost use Rattle.serde_json.specs.Written.{compact_text, comma_if};
-ghost use Rattle.ccr_run.specs.Answers.{text_of, line_of, bad_text, checkpoint_text, truth_text, result_text, written_text, heard_text, refusal_text, hit_text, hits_text, found_text};
+ghost use Rattle.ccr_run.specs.Answers.{text_of, checkpoint_text, truth_text, result_text, written_text, heard_text, refusal_text, hit_text, hits_text, found_text};
 
-use crate::commands::BadLine;
 use ccr_world::{Heard, Hit, Refusal, Reply, ShardAnswer, WriteResult, Wrote};
 use serde_json::Value;
 use std::alloc::{AllocError, Global};
@@ -19,48 +18,12 @@ pub fn answer_text(alloc: Global, reply: &Reply) -> Result<String, AllocError>
 {
     match reply {
         Reply::Written(wrote) => written_text(alloc, wrote),
-        Reply::Heard(Heard::Done) => String::from_str(alloc, "ok"),
-        Reply::Heard(Heard::Parked) => String::from_str(alloc, "parked"),
+        Reply::Heard(heard) => String::from_str(alloc, heard_word(*heard)),
         Reply::Took { .. } => String::from_str(alloc, "ok"),
         Reply::Applied { new } => format!(in alloc; "applied new={new}"),
+        Reply::Done => String::from_str(alloc, "ok"),
         Reply::Found { answer } => found_text(alloc, answer),
         Reply::Refused(refusal) => refusal_text(alloc, refusal),
-    }
-}
-
-/// The whole line for the reply to the command on the line of this number, counted from 1.
-pub fn answer_line(alloc: Global, number: u64, reply: &Reply) -> Result<String, AllocError>
-    ensures { IfOk result (λ line. string_bytes line ≡ line_of number (text_of reply.now)) }
-{
-    let text = answer_text(alloc, reply)?;
-    numbered(alloc, number, text.as_str())
-}
-
-/// The whole line for a line that ends the run.
-pub fn bad_line_text(alloc: Global, number: u64, why: BadLine) -> Result<String, AllocError>
-    requires { why ≢ BadLine.Memory }
-    ensures { IfOk result (λ line. string_bytes line ≡ line_of number (bad_text why)) }
-{
-    numbered(alloc, number, bad_word(why))
-}
-
-fn numbered(alloc: Global, number: u64, text: &str) -> Result<String, AllocError>
-    ensures { IfOk result (λ line. string_bytes line ≡ line_of number text.now) }
-{
-    format!(in alloc; "{number} {text}\n")
-}
-
-fn bad_word(why: BadLine) -> &'static str
-    requires { why ≢ BadLine.Memory }
-    ensures { result.now ≡ bad_text why }
-{
-    match why {
-        BadLine::NotJson => "bad NotJson",
-        BadLine::NoOp => "bad NoOp",
-        BadLine::BadField => "bad BadField",
-        BadLine::TooLong => "bad TooLong",
-        BadLine::TooMany => "bad TooMany",
-        BadLine::Memory => unreachable!(),
     }
 }
 
@@ -73,6 +36,16 @@ fn written_text(alloc: Global, wrote: &Wrote) -> Result<String, AllocError>
     let version = wrote.version;
     let word = result_word(wrote.result);
     format!(in alloc; "written shard=0 seq={seq} term={term} version={version} result={word}")
+}
+
+fn heard_word(heard: Heard) -> &'static str
+    ensures { result.now ≡ heard_text heard }
+{
+    match heard {
+        Heard::Done => "ok",
+        Heard::Parked => "parked",
+        Heard::Ignored => "ignored",
+    }
 }
 
 fn result_word(made: WriteResult) -> &'static str
@@ -96,6 +69,7 @@ fn refusal_text(alloc: Global, refusal: &Refusal) -> Result<String, AllocError>
             format!(in alloc; "refused Wait global={checkpoint}")
         }
         Refusal::NoBatch { write } => format!(in alloc; "refused NoBatch write={write}"),
+        Refusal::NotWritten { copy } => format!(in alloc; "refused NotWritten copy={copy}"),
     }
 }
 

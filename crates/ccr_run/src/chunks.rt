@@ -11,21 +11,22 @@ const CHUNK_BYTES: usize = 8192;
 
 const LINE_FEED: u8 = b'\n';
 
-/// The bytes that were read from a source and not yet given away.
+/// The bytes that were read from a source and not yet given away, and whether the source has said that
+/// it is at its end.
 #[derive(Drop)]
 pub struct Chunk {
     bytes: Vec<u8>,
     start: usize,
     end: usize,
+    ended: bool,
 }
 
 impl Model for Chunk {
-    ghost use Rattle.std.specs.Prelude.{List, ℕ};
-    ghost use Rattle.ccr_run.specs.Reader.{IsChunk, part_of};
+    ghost use Rattle.ccr_run.specs.Reader.{Ahead, IsChunk, part_of};
 
-    ghost Value = { List ℕ };
+    ghost Value = { Ahead };
 
-    ghost view = { λ a. part_of a.bytes.items a.start a.end };
+    ghost view = { λ a. record { bytes = part_of a.bytes.items a.start a.end; ended = a.ended } };
 
     ghost invariant = { λ a. IsChunk a.bytes.items a.start a.end };
 }
@@ -33,30 +34,41 @@ impl Model for Chunk {
 impl Chunk {
     /// A chunk with no byte.
     pub fn new(alloc: Global) -> Result<Self, AllocError>
-        ensures { IfOk result (λ chunk. chunk ≡ []) }
+        ensures { IfOk result (λ chunk. chunk ≡ record { bytes = []; ended = false }) }
     {
         let bytes = vec![in alloc; 0u8; CHUNK_BYTES]?;
         Ok(Chunk {
             bytes,
             start: 0,
             end: 0,
+            ended: false,
         })
     }
 
     /// Whether no byte is left.
     pub fn is_empty(&self) -> bool
-        ensures { IsTrue result ↔ (self.now ≡ []) }
+        ensures { IsTrue result ↔ (self.now.bytes ≡ []) }
     {
         self.start == self.end
     }
 
-    /// Reads further bytes into an empty chunk: none where the source is at its end.
+    /// Whether the source has said that it is at its end.
+    pub fn has_ended(&self) -> bool
+        ensures { result ≡ self.now.ended }
+    {
+        self.ended
+    }
+
+    /// Reads further bytes into an empty chunk: none where the source is at its end, which it has then said.
     pub fn refill<S: Source>(&mut self, from: &mut S) -> Result<(), Failed>
-        requires empty { self.old ≡ [] }
+        requires empty { self.old.bytes ≡ [] }
+        requires open { self.old.ended ≡ false }
         requires countable { S.faults from.old < 2 ^ 64 - 1 }
-        ensures bytes { OnOk result (Consumes (S.left from.old) (S.left from.new) self.new) }
-        ensures end { OnOk result (self.new ≡ [] → IsAtEnd (S.left from.new)) }
+        ensures bytes { OnOk result (Consumes (S.left from.old) (S.left from.new) self.new.bytes) }
+        ensures end { OnOk result (self.new.ended ≡ true → IsAtEnd (S.left from.new)) }
+        ensures some { OnOk result ((self.new.ended ≡ true) ↔ (self.new.bytes ≡ [])) }
         ensures kept { OnErr result (S.left from.new ≡ S.left from.old) }
+        ensures same { OnErr result (self.new ≡ self.old) }
         ensures told { is_some (S.left from.new) ≡ is_some (S.left from.old) }
         ensures quiet { OnOk result (S.faults from.new ≡ S.faults from.old) }
         ensures rose { OnErr result (S.faults from.old < S.faults from.new) }
@@ -65,14 +77,16 @@ impl Chunk {
         self.end = 0;
         let count = from.read(self.bytes.as_mut_slice())?;
         self.end = count;
+        self.ended = count == 0;
         Ok(())
     }
 
     /// Gives the bytes up to the next line feed, which is dropped, to the line, and says whether there
     /// is one: else it gives all.
     pub fn give(&mut self, line: &mut Vec<u8>) -> Result<bool, AllocError>
-        ensures ended { result ≡ Ok true → EndsLine self.old self.new line.old.items line.new.items }
-        ensures goes_on { result ≡ Ok false → GoesOn self.old self.new line.old.items line.new.items }
+        ensures ended { result ≡ Ok true → EndsLine self.old.bytes self.new.bytes line.old.items line.new.items }
+        ensures goes_on { result ≡ Ok false → GoesOn self.old.bytes self.new.bytes line.old.items line.new.items }
+        ensures same { self.new.ended ≡ self.old.ended }
     {
         let read = &self.bytes[..self.end];
         let part = &read[self.start..];

@@ -7,14 +7,14 @@ ghost use Rattle.serde_json.specs.Errors.{IsMemory};
 ghost use Rattle.serde_json.specs.Find.{as_object};
 ghost use Rattle.serde_json.specs.View.{view};
 ghost use Rattle.ccr_op.specs.Operation.{IsSourceText};
-ghost use Rattle.ccr_run.specs.Commands.{command_of, is_blank, value_of, text_at, number_at, side_of, side_at, has_fields, are_whole, id_of, id_at, source_of, source_at, named_command, write_of, wake_of, deliver_of, apply_of, search_of};
+ghost use Rattle.ccr_run.specs.Commands.{command_of, is_blank, value_of, text_at, number_at, number_or, truth_or, side_of, side_at, has_fields, are_whole, id_of, id_at, source_of, source_at, named_command, write_of, wake_of, deliver_of, write_number_of, apply_of, written_of, search_of};
 
+use crate::bad_lines::BadLine;
 use ccr_op::{Body, DocId};
 use ccr_world::{Side, WriteRequest};
 use serde_json::Value;
 use std::alloc::{AllocError, Global};
 use std::str;
-use thiserror::Error;
 
 /// The most bytes that the compact text of a source has.
 const MOST_SOURCE_BYTES: usize = 524_288;
@@ -27,48 +27,16 @@ const NUMBER_BOUND: u64 = 9_007_199_254_740_992;
 pub enum Command {
     /// A client writes a document at the leader.
     Write { request: WriteRequest },
-    /// The oldest parked read is answered, if there is something to answer.
-    Wake,
-    /// The message at a place of those in flight comes to its receiver.
-    Deliver { at: u64 },
+    /// The parked read at a place, oldest first, is answered if there is something to answer.
+    Wake { at: u64 },
+    /// The message at a place of those in flight comes to its receiver. It leaves them unless it is kept.
+    Deliver { at: u64, keep: bool },
     /// The follower applies an outstanding write.
     Apply { write: u64 },
+    /// An outstanding write ends.
+    Written { write: u64 },
     /// A client searches all documents of a copy.
     Search { side: Side },
-}
-
-/// Why a line was not read.
-#[derive(Clone, Copy, Debug, PartialEq, Eq, Error)]
-pub enum BadLine {
-    /// It is no JSON value in UTF-8.
-    #[error("the line isn't JSON")]
-    NotJson,
-    /// It is no object, or has no text `op` that names a command.
-    #[error("the line names no command")]
-    NoOp,
-    /// A field of the command is absent, isn't one of the command's, or has a value that isn't of its kind.
-    #[error("a field is absent, unlisted, or not of its kind")]
-    BadField,
-    /// It has more bytes than a line may have.
-    #[error("the line is too long")]
-    TooLong,
-    /// More lines came before it than a script may have.
-    #[error("the script has too many lines")]
-    TooMany,
-    /// Memory ran out.
-    #[error("out of memory")]
-    Memory,
-}
-
-impl From<AllocError> for BadLine {
-    ghost use Rattle.std.specs.Prelude.{◌≡◌};
-    ghost use Rattle.ccr_run.specs.declared.commands.BadLine.TheVariants.{Memory};
-
-    ghost from_gives = { λ _ e. e ≡ Memory };
-
-    fn from(_refused: AllocError) -> BadLine {
-        BadLine::Memory
-    }
 }
 
 /// The command of a line, or `None` for a line of spaces and tabs alone.
@@ -148,6 +116,9 @@ fn read_named(alloc: Global, name: &str, value: &Value) -> Result<Command, BadLi
     if name == "apply" {
         return read_apply(value).ok_or(BadLine::BadField);
     }
+    if name == "written" {
+        return read_written(value).ok_or(BadLine::BadField);
+    }
     if name == "search" {
         return read_search(value).ok_or(BadLine::BadField);
     }
@@ -178,29 +149,46 @@ fn read_write(alloc: Global, value: &Value) -> Result<Option<Command>, AllocErro
 fn read_wake(value: &Value) -> Option<Command>
     ensures { result ≡ wake_of (view value.now) }
 {
-    if !has_only(value, &["op", "index"]) {
+    if !has_only(value, &["op", "index", "at"]) {
         return None;
     }
-    match side_at(value) {
-        Some(Side::Follower) => Some(Command::Wake),
-        _ => None,
+    if !matches!(side_at(value), Some(Side::Follower)) {
+        return None;
     }
+    let at = number_or(value, "at", 0)?;
+    Some(Command::Wake { at })
 }
 
 #[tactic(auto, unfolding(crate::specs::Commands::deliver_of))]
 fn read_deliver(value: &Value) -> Option<Command>
     ensures { result ≡ deliver_of (view value.now) }
 {
-    if !has_only(value, &["op", "index", "at"]) || side_at(value).is_none() {
+    if !has_only(value, &["op", "index", "at", "keep"]) || side_at(value).is_none() {
         return None;
     }
     let at = number_at(value, "at")?;
-    Some(Command::Deliver { at })
+    let keep = truth_or(value, "keep", false)?;
+    Some(Command::Deliver { at, keep })
 }
 
-#[tactic(auto, unfolding(crate::specs::Commands::apply_of))]
 fn read_apply(value: &Value) -> Option<Command>
     ensures { result ≡ apply_of (view value.now) }
+{
+    let write = read_write_number(value)?;
+    Some(Command::Apply { write })
+}
+
+fn read_written(value: &Value) -> Option<Command>
+    ensures { result ≡ written_of (view value.now) }
+{
+    let write = read_write_number(value)?;
+    Some(Command::Written { write })
+}
+
+/// The number of a write, for a command of the follower that has no other field.
+#[tactic(auto, unfolding(crate::specs::Commands::write_number_of))]
+fn read_write_number(value: &Value) -> Option<u64>
+    ensures { result ≡ write_number_of (view value.now) }
 {
     if !has_only(value, &["op", "index", "write"]) {
         return None;
@@ -208,8 +196,7 @@ fn read_apply(value: &Value) -> Option<Command>
     if !matches!(side_at(value), Some(Side::Follower)) {
         return None;
     }
-    let write = number_at(value, "write")?;
-    Some(Command::Apply { write })
+    number_at(value, "write")
 }
 
 #[tactic(auto, unfolding(crate::specs::Commands::search_of))]
@@ -264,6 +251,28 @@ fn number_at(value: &Value, name: &str) -> Option<u64>
     } else {
         None
     }
+}
+
+/// The number under a name, and `default` where there is no such field.
+#[tactic(auto, unfolding(crate::specs::Commands::number_or))]
+fn number_or(value: &Value, name: &str, default: u64) -> Option<u64>
+    ensures { result ≡ number_or default name.now (view value.now) }
+{
+    if value.get(name).is_none() {
+        return Some(default);
+    }
+    number_at(value, name)
+}
+
+/// The truth value under a name, and `default` where there is no such field.
+#[tactic(auto, unfolding(crate::specs::Commands::truth_or))]
+fn truth_or(value: &Value, name: &str, default: bool) -> Option<bool>
+    ensures { result ≡ truth_or default name.now (view value.now) }
+{
+    if value.get(name).is_none() {
+        return Some(default);
+    }
+    value.get(name).and_then(Value::as_bool)
 }
 
 /// The side whose index the value names.

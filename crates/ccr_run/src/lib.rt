@@ -3,17 +3,21 @@
 #![tactic(auto)]
 
 mod answers;
+mod bad_lines;
 mod chunks;
 mod commands;
 mod lines;
+mod players;
 mod playing;
+mod printed;
 #[cfg(test)]
 mod replay_tests;
 mod replays;
+mod shard_player;
 mod statuses;
 #[cfg(test)]
 mod tests;
 
-pub use commands::BadLine;
+pub use bad_lines::BadLine;
 pub use replays::replay;
 pub use statuses::{Report, Status};

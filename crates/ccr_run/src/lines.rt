@@ -1,6 +1,7 @@
 ghost use Rattle.std.specs.Prelude.{◌≡◌, ℕ, ◌+◌, ◌-◌, ◌<◌, ◌≤◌, ◌^◌, ◌++◌, ◌∷◌, [], List, Option, length, take, drop, is_some, IfOk, IfErr, OnOk, OnErr, IfSome, IfNone, Some, Ok, Err, ◌≢◌, true, false};
 ghost use Rattle.std.specs.Io.KnownBytes.{Consumes, IsAtEnd};
-ghost use Rattle.ccr_run.specs.Lines.{FirstLineIsOver, GivesLine, HasLine, IsPlain, rest_of};
+ghost use Rattle.ccr_run.specs.Lines.{BreaksOff, FirstLineIsOver, GivesEnded, GivesLine, HasLine, rest_of};
+ghost use Rattle.ccr_run.specs.Reader.{EndIsTrue};
 
 use crate::chunks::Chunk;
 use ccr_io::{Failed, Source};
@@ -46,13 +47,13 @@ impl Model for Lines {
 
     ghost Value = { Reader };
 
-    ghost view = { λ a. record { number = a.number; pending = a.chunk } };
+    ghost view = { λ a. record { number = a.number; pending = a.chunk.bytes; ended = a.chunk.ended } };
 }
 
 impl Lines {
     /// A reader that has given no line yet.
     pub fn new(alloc: Global) -> Result<Self, AllocError>
-        ensures { IfOk result (λ lines. lines ≡ record { number = 0; pending = [] }) }
+        ensures { IfOk result (λ lines. lines ≡ record { number = 0; pending = []; ended = false }) }
     {
         let chunk = Chunk::new(alloc)?;
         Ok(Lines {
@@ -70,13 +71,18 @@ impl Lines {
     }
 
     /// The next line, or none at the end of the source. A line ends at a line feed or at the end of the
-    /// source; an empty rest behind the last line feed is no line. After an error nothing is said of what
-    /// further calls give.
+    /// source; an empty rest behind the last line feed is no line. Once the source has said that it is at
+    /// its end, it is not read again. After an error nothing is said of what further calls give.
     pub fn next<S: Source>(&mut self, from: &mut S) -> Result<Option<Line>, LineFault>
         requires countable { S.faults from.old < 2 ^ 64 - 1 }
         requires numbered { self.old.number < MOST_LINES }
+        requires true_end { EndIsTrue self.old.ended self.old.pending (S.left from.old) }
         ensures line { IfOk result (λ found. IfSome found (λ line.
             GivesLine (rest_of self.old.pending (S.left from.old)) (rest_of self.new.pending (S.left from.new)) line.bytes.items)) }
+        ensures ended { IfOk result (λ found. IfSome found (λ line. self.new.ended ≡ false →
+            GivesEnded (rest_of self.old.pending (S.left from.old)) (rest_of self.new.pending (S.left from.new)) line.bytes.items)) }
+        ensures true_end { OnOk result (EndIsTrue self.new.ended self.new.pending (S.left from.new)) }
+        ensures stays { self.old.ended ≡ true → self.new.ended ≡ true }
         ensures number { IfOk result (λ found. IfSome found (λ line. (line.number ≡ self.old.number + 1) × (self.new.number ≡ line.number))) }
         ensures bounds { IfOk result (λ found. IfSome found (λ line. (line.number < MOST_LINES) × (length line.bytes.items ≤ MOST_LINE_BYTES))) }
         ensures end { IfOk result (λ found. IfNone found (IsAtEnd (rest_of self.old.pending (S.left from.old)))) }
@@ -84,6 +90,7 @@ impl Lines {
         ensures too_long { result ≡ Err LineFault.TooLong → FirstLineIsOver (rest_of self.old.pending (S.left from.old)) MOST_LINE_BYTES × (self.old.number + 1 < MOST_LINES) }
         ensures too_many { result ≡ Err LineFault.TooMany → HasLine (rest_of self.old.pending (S.left from.old)) × (self.old.number + 1 ≡ MOST_LINES) }
         ensures read { result ≡ Err LineFault.Read → S.faults from.old < S.faults from.new }
+        ensures broken_off { result ≡ Err LineFault.Read → (self.old.ended ≡ false) × BreaksOff (rest_of self.old.pending (S.left from.old)) (S.left from.new) }
         ensures quiet { result ≢ Err LineFault.Read → S.faults from.new ≡ S.faults from.old }
         ensures told { is_some (S.left from.new) ≡ is_some (S.left from.old) }
     {
@@ -102,18 +109,25 @@ impl Lines {
     }
 }
 
-// Reads on where no byte is at hand, and says whether one is then.
+// Reads on where no byte is at hand, unless the source has said that it is at its end, and says whether
+// a byte is there then.
 fn has_more<S: Source>(chunk: &mut Chunk, from: &mut S) -> Result<bool, LineFault>
-    requires { S.faults from.old < 2 ^ 64 - 1 }
-    ensures rest { OnOk result (rest_of chunk.new (S.left from.new) ≡ rest_of chunk.old (S.left from.old)) }
-    ensures more { result ≡ Ok true → chunk.new ≢ [] }
-    ensures end { result ≡ Ok false → (chunk.new ≡ []) × IsAtEnd (S.left from.new) }
+    requires countable { S.faults from.old < 2 ^ 64 - 1 }
+    requires true_end { EndIsTrue chunk.old.ended chunk.old.bytes (S.left from.old) }
+    ensures rest { rest_of chunk.new.bytes (S.left from.new) ≡ rest_of chunk.old.bytes (S.left from.old) }
+    ensures more { result ≡ Ok true → (chunk.new.bytes ≢ []) × (chunk.new.ended ≡ false) }
+    ensures end { result ≡ Ok false → (chunk.new.bytes ≡ []) × (chunk.new.ended ≡ true) × IsAtEnd (S.left from.new) }
+    ensures stays { chunk.old.ended ≡ true → chunk.new.ended ≡ true }
+    ensures none { OnErr result ((chunk.new.bytes ≡ []) × (chunk.old.ended ≡ false)) }
     ensures told { is_some (S.left from.new) ≡ is_some (S.left from.old) }
     ensures quiet { OnOk result (S.faults from.new ≡ S.faults from.old) }
     ensures err { IfErr result (λ why. (why ≡ LineFault.Read) × (S.faults from.old < S.faults from.new)) }
 {
     if !chunk.is_empty() {
         return Ok(true);
+    }
+    if chunk.has_ended() {
+        return Ok(false);
     }
     match chunk.refill(from) {
         Ok(()) => Ok(!chunk.is_empty()),
@@ -127,13 +141,17 @@ fn read_line<S: Source>(
     chunk: &mut Chunk,
     from: &mut S,
 ) -> Result<Vec<u8>, LineFault>
-    requires begun { chunk.old ≢ [] }
+    requires begun { chunk.old.bytes ≢ [] }
+    requires open { chunk.old.ended ≡ false }
     requires countable { S.faults from.old < 2 ^ 64 - 1 }
-    ensures line { IfOk result (λ bytes. GivesLine (rest_of chunk.old (S.left from.old)) (rest_of chunk.new (S.left from.new)) bytes.items) }
+    ensures line { IfOk result (λ bytes. GivesLine (rest_of chunk.old.bytes (S.left from.old)) (rest_of chunk.new.bytes (S.left from.new)) bytes.items) }
+    ensures ended { IfOk result (λ bytes. chunk.new.ended ≡ false → GivesEnded (rest_of chunk.old.bytes (S.left from.old)) (rest_of chunk.new.bytes (S.left from.new)) bytes.items) }
+    ensures true_end { OnOk result (EndIsTrue chunk.new.ended chunk.new.bytes (S.left from.new)) }
     ensures bounds { IfOk result (λ bytes. length bytes.items ≤ MOST_LINE_BYTES) }
-    ensures too_long { result ≡ Err LineFault.TooLong → FirstLineIsOver (rest_of chunk.old (S.left from.old)) MOST_LINE_BYTES }
+    ensures too_long { result ≡ Err LineFault.TooLong → FirstLineIsOver (rest_of chunk.old.bytes (S.left from.old)) MOST_LINE_BYTES }
     ensures some { result ≢ Err LineFault.TooMany }
     ensures read { result ≡ Err LineFault.Read → S.faults from.old < S.faults from.new }
+    ensures broken_off { result ≡ Err LineFault.Read → BreaksOff (rest_of chunk.old.bytes (S.left from.old)) (S.left from.new) }
     ensures quiet { result ≢ Err LineFault.Read → S.faults from.new ≡ S.faults from.old }
     ensures told { is_some (S.left from.new) ≡ is_some (S.left from.old) }
 {

@@ -7,6 +7,7 @@ const FIRST_PATH: &str = r#"{"op":"write","index":"a/l","id":"a","source":{"n":1
 {"op":"wake","index":"b/f"}
 {"op":"deliver","index":"b/f","at":0}
 {"op":"apply","index":"b/f","write":0}
+{"op":"written","index":"b/f","write":0}
 {"op":"search","index":"b/f"}
 "#;
 
@@ -14,7 +15,29 @@ const FIRST_PATH_ANSWERS: &str = r#"1 written shard=0 seq=0 term=1 version=1 res
 2 ok
 3 ok
 4 applied new=1
-5 {"checkpoints":[0],"gaps":[false],"hits":[{"id":"a","source":{"n":1}}],"total":1}
+5 ok
+6 {"checkpoints":[0],"gaps":[false],"hits":[{"id":"a","source":{"n":1}}],"total":1}
+"#;
+
+// The same message comes three times, and its write is applied twice.
+const REPEATS: &str = r#"{"op":"write","index":"a/l","id":"a","source":{"n":1}}
+{"op":"wake","index":"b/f"}
+{"op":"deliver","index":"b/f","at":0,"keep":true}
+{"op":"deliver","index":"b/f","at":0,"keep":true}
+{"op":"deliver","index":"b/f","at":0}
+{"op":"apply","index":"b/f","write":0}
+{"op":"apply","index":"b/f","write":0}
+{"op":"search","index":"b/f"}
+"#;
+
+const REPEATS_ANSWERS: &str = r#"1 written shard=0 seq=0 term=1 version=1 result=created
+2 ok
+3 ok
+4 ignored
+5 ignored
+6 applied new=1
+7 applied new=0
+8 {"checkpoints":[0],"gaps":[false],"hits":[{"id":"a","source":{"n":1}}],"total":1}
 "#;
 
 // The second batch comes before the first.
@@ -54,6 +77,11 @@ const REFUSALS: &str = r#"{"op":"deliver","index":"a/l","at":0}
 {"op":"wake","index":"b/f"}
 {"op":"deliver","index":"b/f","at":0}
 {"op":"deliver","index":"b/f","at":0}
+{"op":"wake","index":"b/f","at":1}
+{"op":"written","index":"b/f","write":0}
+{"op":"apply","index":"b/f","write":0}
+{"op":"written","index":"b/f","write":0}
+{"op":"written","index":"b/f","write":0}
 "#;
 
 const REFUSALS_ANSWERS: &str = r#"1 refused NoFrame at=0
@@ -64,7 +92,15 @@ const REFUSALS_ANSWERS: &str = r#"1 refused NoFrame at=0
 6 refused NoPoll at=0
 7 ok
 8 parked
+9 refused NoPoll at=1
+10 refused NotWritten copy=0
+11 applied new=1
+12 ok
+13 refused NoBatch write=0
 "#;
+
+/// How many bytes move at a time where the failing calls are gone through.
+const PIECE: usize = 16;
 
 // What a run over bytes in memory wrote, and how it ended.
 struct Ending {
@@ -103,6 +139,19 @@ fn a_write_is_found_at_the_follower(rt: HostRuntime) -> Result<(), Fail> {
             FIRST_PATH.as_bytes(),
             Status::Done,
             FIRST_PATH_ANSWERS
+        )?
+    );
+    Ok(())
+}
+
+#[test]
+fn a_repeated_message_is_ignored(rt: HostRuntime) -> Result<(), Fail> {
+    assert!(rt;
+        ends(
+            rt.alloc(),
+            REPEATS.as_bytes(),
+            Status::Done,
+            REPEATS_ANSWERS
         )?
     );
     Ok(())
@@ -189,28 +238,120 @@ fn a_line_has_at_most_1048576_bytes(rt: HostRuntime) -> Result<(), Fail> {
     Ok(())
 }
 
+// How many lines end in a text.
+fn feeds(text: &[u8]) -> usize {
+    text.iter().filter(|byte| **byte == b'\n').count()
+}
+
+// Plays the first path, read and written 16 bytes at a time, with one read or one write that fails.
+fn run_in_pieces(
+    alloc: Global,
+    failing_read: Option<u64>,
+    failing_write: Option<u64>,
+) -> Result<Ending, AllocError> {
+    let mut words = Vec::new(alloc);
+    words.push(String::from_str(alloc, "replay")?)?;
+    let script = Vec::from_slice(alloc, FIRST_PATH.as_bytes())?;
+    let mut source = MemSource::new(script, PIECE, listed(alloc, failing_read)?);
+    let mut sink = MemSink::new(alloc, PIECE, listed(alloc, failing_write)?);
+    let report = replay(alloc, &words, &mut source, &mut sink);
+    Ok(Ending {
+        status: report.status,
+        sink,
+    })
+}
+
+fn listed(alloc: Global, call: Option<u64>) -> Result<Vec<u64>, AllocError> {
+    let mut calls = Vec::new(alloc);
+    if let Some(call) = call {
+        calls.push(call)?;
+    }
+    Ok(calls)
+}
+
 #[test]
-fn a_failing_source_leaves_whole_lines_answered(rt: HostRuntime) -> Result<(), Fail> {
+fn what_ended_before_a_failing_read_is_answered(rt: HostRuntime) -> Result<(), Fail> {
     let alloc = rt.alloc();
-    let mut failing = Vec::new(alloc);
-    failing.push(1)?;
-    let run = run(alloc, FIRST_PATH.as_bytes(), failing, Vec::new(alloc))?;
+    let mut read = 0;
+    let mut call = 0;
+    for piece in FIRST_PATH.as_bytes().chunks(PIECE) {
+        assert!(rt; is_answered_so_far(alloc, call, read)?, "{call}");
+        read = piece.len().saturating_add(read);
+        call = 1u64.saturating_add(call);
+    }
+    assert!(rt; is_answered_so_far(alloc, call, read)?);
+    let run = run_in_pieces(alloc, Some(call.saturating_add(1)), None)?;
     let Ending { status, sink } = run;
-    assert_eq!(rt; status, Status::ReadFault);
-    let first = "1 written shard=0 seq=0 term=1 version=1 result=created\n";
-    assert!(rt; sink.bytes() == first.as_bytes());
+    assert_eq!(rt; status, Status::Done);
+    assert!(rt; sink.bytes() == FIRST_PATH_ANSWERS.as_bytes());
+    Ok(())
+}
+
+// Whether a run whose read call of this number fails, after so many bytes were read, has answered the
+// lines that ended in them, and nothing else.
+fn is_answered_so_far(alloc: Global, call: u64, read: usize) -> Result<bool, AllocError> {
+    let Some(script) = FIRST_PATH.as_bytes().get(..read) else {
+        return Ok(false);
+    };
+    let run = run_in_pieces(alloc, Some(call), None)?;
+    let Ending { status, sink } = run;
+    let written = sink.bytes();
+    let whole = written.is_empty() || written.ends_with(b"\n");
+    Ok(
+        status == Status::ReadFault
+            && FIRST_PATH_ANSWERS.as_bytes().starts_with(written)
+            && feeds(written) == feeds(script)
+            && whole,
+    )
+}
+
+#[test]
+fn an_answer_is_cut_where_a_write_fails(rt: HostRuntime) -> Result<(), Fail> {
+    let alloc = rt.alloc();
+    let mut written = 0;
+    let mut call = 0;
+    for line in FIRST_PATH_ANSWERS
+        .as_bytes()
+        .split_inclusive(|byte| *byte == b'\n')
+    {
+        for piece in line.chunks(PIECE) {
+            let run = run_in_pieces(alloc, None, Some(call))?;
+            let Ending { status, sink } = run;
+            assert_eq!(rt; status, Status::WriteFault);
+            assert!(rt;
+                Some(sink.bytes()) == FIRST_PATH_ANSWERS.as_bytes().get(..written),
+                "{call}"
+            );
+            written = piece.len().saturating_add(written);
+            call = 1u64.saturating_add(call);
+        }
+    }
+    let run = run_in_pieces(alloc, None, Some(call))?;
+    let Ending { status, sink } = run;
+    assert_eq!(rt; status, Status::Done);
+    assert!(rt; sink.bytes() == FIRST_PATH_ANSWERS.as_bytes());
     Ok(())
 }
 
 #[test]
-fn a_failing_sink_has_nothing_of_the_answer(rt: HostRuntime) -> Result<(), Fail> {
+fn the_answer_of_a_bad_line_is_cut_too(rt: HostRuntime) -> Result<(), Fail> {
     let alloc = rt.alloc();
-    let mut failing = Vec::new(alloc);
-    failing.push(0)?;
-    let run = run(alloc, FIRST_PATH.as_bytes(), Vec::new(alloc), failing)?;
+    let script = b"{\"op\":\"wake\",\"index\":\"b/f\"}\nhello\n";
+    let run = run(alloc, script, Vec::new(alloc), listed(alloc, Some(1))?)?;
     let Ending { status, sink } = run;
     assert_eq!(rt; status, Status::WriteFault);
-    assert!(rt; sink.bytes().is_empty());
+    assert!(rt; sink.bytes() == b"1 refused Wait global=-1\n".as_slice());
+    Ok(())
+}
+
+#[test]
+fn a_source_at_its_end_is_not_read_again(rt: HostRuntime) -> Result<(), Fail> {
+    let alloc = rt.alloc();
+    let script = b"{\"op\":\"wake\",\"index\":\"b/f\"}";
+    let run = run(alloc, script, listed(alloc, Some(2))?, Vec::new(alloc))?;
+    let Ending { status, sink } = run;
+    assert_eq!(rt; status, Status::Done);
+    assert!(rt; sink.bytes() == b"1 refused Wait global=-1\n".as_slice());
     Ok(())
 }
 

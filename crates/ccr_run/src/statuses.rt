@@ -1,6 +1,6 @@
 ghost use Rattle.std.specs.Prelude.{◌≡◌};
 
-use crate::commands::BadLine;
+use crate::bad_lines::BadLine;
 use ccr_world::Journal;
 
 /// How a run ended.

@@ -1,5 +1,7 @@
-use crate::answers::{answer_line, bad_line_text};
-use crate::commands::{BadLine, Command, read_command};
+use crate::answers::answer_text;
+use crate::bad_lines::BadLine;
+use crate::commands::{Command, read_command};
+use crate::printed::{answer_line, bad_line_text};
 use ccr_op::{Body, DocId};
 use ccr_world::{Heard, Hit, Hits, Refusal, Reply, ShardAnswer, Side, WriteResult, Wrote};
 use std::alloc::{AllocError, Global};
@@ -9,9 +11,12 @@ use std::test::Fail;
 const COMMANDS: &str = r#"write a {"n":1}|{"op":"write","index":"a/l","id":"a","source":{"n":1}}
 write b {"a":7,"b":-9223372036854775808}| {"source": {"b": -9223372036854775808, "a": 7}, "id": "b", "index": "a/l", "op": "write"}
 write c {}|{"op":"write","index":"a/l","id":"a","id":"c","source":{"n":1},"source":{}}
-wake|{"op":"wake","index":"b/f"}
-deliver 9007199254740991|{"op":"deliver","index":"a/l","at":9007199254740991}
+wake 0|{"op":"wake","index":"b/f"}
+wake 1|{"op":"wake","index":"b/f","at":1}
+deliver 9007199254740991 false|{"op":"deliver","index":"a/l","at":9007199254740991}
+deliver 0 true|{"op":"deliver","index":"b/f","at":0,"keep":true}
 apply 0|{"op":"apply","index":"b/f","write":0}
+written 0|{"op":"written","index":"b/f","write":0}
 search Follower|{"op":"search","index":"b/f"}
 search Leader|{"op":"search","index":"a/l"}
 blank|
@@ -35,7 +40,11 @@ BadField|{"op":"wake","index":"a/l"}
 BadField|{"op":"deliver","index":"b/f","at":-1}
 BadField|{"op":"deliver","index":"b/f","at":"5"}
 BadField|{"op":"deliver","index":"b/f","at":9007199254740992}
+BadField|{"op":"wake","index":"b/f","at":null}
+BadField|{"op":"deliver","index":"b/f","at":0,"keep":1}
 BadField|{"op":"apply","index":"b/f"}
+BadField|{"op":"written","index":"a/l","write":0}
+BadField|{"op":"written","index":"b/f","write":0,"at":0}
 BadField|{"op":"search","index":"a/L"}"#;
 
 // What is read of a line, in words.
@@ -54,9 +63,10 @@ fn words_of(alloc: Global, command: Command) -> Result<String, AllocError> {
             let source = request.body().as_str();
             format!(in alloc; "write {id} {source}")
         }
-        Command::Wake => String::from_str(alloc, "wake"),
-        Command::Deliver { at } => format!(in alloc; "deliver {at}"),
+        Command::Wake { at } => format!(in alloc; "wake {at}"),
+        Command::Deliver { at, keep } => format!(in alloc; "deliver {at} {keep}"),
         Command::Apply { write } => format!(in alloc; "apply {write}"),
+        Command::Written { write } => format!(in alloc; "written {write}"),
         Command::Search { side: Side::Leader } => String::from_str(alloc, "search Leader"),
         Command::Search {
             side: Side::Follower,
@@ -114,7 +124,8 @@ fn an_id_has_at_most_512_bytes(rt: HostRuntime) -> Result<(), Fail> {
 }
 
 fn prints(alloc: Global, reply: Reply, want: &str) -> Result<bool, AllocError> {
-    let line = answer_line(alloc, 6, &reply)?;
+    let text = answer_text(alloc, &reply)?;
+    let line = answer_line(alloc, 6, text.as_str())?;
     Ok(line.as_str() == want)
 }
 
@@ -131,6 +142,8 @@ fn prints_replies(rt: HostRuntime) -> Result<(), Fail> {
     assert!(rt; prints(alloc, Reply::Written(wrote), written)?);
     assert!(rt; prints(alloc, Reply::Heard(Heard::Done), "6 ok\n")?);
     assert!(rt; prints(alloc, Reply::Heard(Heard::Parked), "6 parked\n")?);
+    assert!(rt; prints(alloc, Reply::Heard(Heard::Ignored), "6 ignored\n")?);
+    assert!(rt; prints(alloc, Reply::Done, "6 ok\n")?);
     assert!(rt; prints(alloc, Reply::Applied { new: 1 }, "6 applied new=1\n")?);
     Ok(())
 }
@@ -146,6 +159,8 @@ fn prints_refusals(rt: HostRuntime) -> Result<(), Fail> {
     assert!(rt; prints(alloc, wait, "6 refused Wait global=-1\n")?);
     let no_batch = Reply::Refused(Refusal::NoBatch { write: 0 });
     assert!(rt; prints(alloc, no_batch, "6 refused NoBatch write=0\n")?);
+    let not_written = Reply::Refused(Refusal::NotWritten { copy: 0 });
+    assert!(rt; prints(alloc, not_written, "6 refused NotWritten copy=0\n")?);
     let bad = bad_line_text(alloc, 2, BadLine::NotJson)?;
     assert!(rt; bad.as_str() == "2 bad NotJson\n");
     Ok(())

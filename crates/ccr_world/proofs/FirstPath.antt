@@ -1,13 +1,13 @@
--- the worked example is legal
-use Rattle.std.proofs.Common.{◌≡◌, ℕ, ◌<◌, ◌≤◌, List, [], ◌∷◌, refl, ap, subst, sym, ◌∙◌, inl, inr, arith}
-use Rattle.std.specs.Prelude.{◌↔◌, true, false, Some, codes}
-use Rattle.ccr_op.specs.Operation.{Operation, id_of}
+-- the worked examples are legal
+use Rattle.std.proofs.Common.{◌≡◌, ℕ, ◌<◌, List, [], ◌∷◌, refl, ap, subst, ◌∙◌, inl, inr, arith}
+use Rattle.std.specs.Prelude.{true, false, codes}
+use Rattle.ccr_op.specs.Operation.{Operation}
 use Rattle.ccr_op.specs.declared.operation.Kind.TheVariants.{Index}
-use Rattle.ccr_world.specs.Sets.{IsIn, IsCount, HasNumber, HasAbove, IsLive, IsAnswer}
+use Rattle.ccr_world.specs.Sets.{IsIn, IsCount, HasAbove, IsLive, IsAnswer}
 use Rattle.ccr_world.specs.State.{start_state}
-use Rattle.ccr_world.specs.Rows.{write_row, deliver_row, wake_row, take_row, apply_row}
+use Rattle.ccr_world.specs.Rows.{write_row, deliver_row, wake_row, take_row, apply_row, written_row}
 use Rattle.ccr_world.specs.Step.{IsLegal}
-use Rattle.ccr_world.specs.Example.{first_operation, first_path}
+use Rattle.ccr_world.specs.Example.{first_operation, first_path, repeated_frame}
 use Rattle.ccr_world.specs.declared.replies.Hit.{Hit}
 
 only_one : (op : Operation) → IsIn (first_operation ∷ []) op → first_operation ≡ op
@@ -54,5 +54,9 @@ the_answer = record {
 }
 
 pub first_path_is_legal : IsLegal start_state first_path
+unfolding write_row deliver_row wake_row take_row apply_row written_row
+first_path_is_legal = (refl, (refl, (refl, (refl, (refl, (refl, (the_answer, tt)))))))
+
+pub repeated_frame_is_legal : IsLegal start_state repeated_frame
 unfolding write_row deliver_row wake_row take_row apply_row
-first_path_is_legal = (refl, (refl, (refl, (refl, (refl, (the_answer, tt))))))
+repeated_frame_is_legal = (refl, (refl, (refl, (refl, (refl, (refl, (refl, (refl, (refl, (the_answer, tt))))))))))

@@ -2,6 +2,9 @@ pub mod Members
 pub mod Sameness
 pub mod Truth
 pub mod Theorem
+pub mod Runs
+pub mod Bounds
+pub mod Flying
 pub mod Numbering
 pub mod Recording
 pub mod Greatest

@@ -1,6 +1,6 @@
 -- members of lists, and what holds of each
-use Rattle.std.proofs.Common.{◌≡◌, ℕ, ◌+◌, ◌<◌, suc, zero, List, [], ◌∷◌, ◌++◌, length, take, drop, refl, ap, subst, sym, ◌∙◌, inl, inr, arith, rules, ◌⊎◌}
-use Rattle.std.specs.Prelude.{Option, Some, None, slice_get, remove, filter_map, ◌↔◌}
+use Rattle.std.proofs.Common.{◌≡◌, ℕ, ◌+◌, ◌<◌, suc, zero, List, [], ◌∷◌, ◌++◌, length, take, drop, refl, ap, subst, inl, inr, arith, ◌⊎◌}
+use Rattle.std.specs.Prelude.{Option, Some, slice_get, remove, filter_map}
 use Rattle.std.specs.List.{AllByRecursion}
 use Rattle.ccr_world.specs.Sets.{IsIn}
 

@@ -1,11 +1,9 @@
 -- the leader's numbers are its places
-use Rattle.std.proofs.Common.{◌≡◌, ℕ, ◌<◌, Bool, true, false, List, [], ◌∷◌, ◌++◌, length, refl, ap, subst, sym, ◌∙◌, arith}
-use Rattle.std.specs.Prelude.{Some, slice_get}
+use Rattle.std.proofs.Common.{◌≡◌, ◌<◌, true, false, List, length, refl, arith}
 use Rattle.std.proofs.lemmas.Option.{slice_get_within}
 use Rattle.ccr_op.specs.Operation.{Operation}
 use Rattle.ccr_world.specs.Numbered.{IsNumbered}
 use Rattle.ccr_world.specs.Rows.{has_number}
-use Rattle.ccr_world.specs.Sets.{IsIn}
 use Rattle.ccr_world.proofs.Members.{place_of}
 use Rattle.ccr_world.proofs.Truth.{IsNumbered-push, has_number-member}
 

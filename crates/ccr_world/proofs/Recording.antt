@@ -1,6 +1,6 @@
 -- a journal grows by an entry
-use Rattle.std.proofs.Common.{◌≡◌, List, [], ◌∷◌, ◌++◌, refl, ap, subst, sym, ◌∙◌, rules}
-use Rattle.ccr_world.specs.State.{State, start_state}
+use Rattle.std.proofs.Common.{◌≡◌, List, [], ◌∷◌, ◌++◌, refl, ◌∙◌}
+use Rattle.ccr_world.specs.State.{State}
 use Rattle.ccr_world.specs.Step.{IsLegal, IsReply, IsRefusal, next, state_after}
 use Rattle.ccr_world.specs.declared.journals.Entry.{Entry}
 use Rattle.ccr_world.specs.declared.events.Event.{Event}

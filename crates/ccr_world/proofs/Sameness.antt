@@ -1,16 +1,15 @@
 -- sets of the same operations give the same answers; batches that are found the same are equal
-use Rattle.std.proofs.Common.{◌≡◌, ◌≢◌, ℕ, zero, suc, ◌+◌, length, drop, get_or, ◌<◌, ◌≤◌, Bool, true, false, List, [], ◌∷◌, refl, ap, subst, sym, ◌∙◌, arith, rules, eqb}
-use Rattle.std.specs.Prelude.{◌↔◌, ◌&&◌, ◌==◌, Option, Some, None, IsTrue}
+use Rattle.std.proofs.Common.{◌≡◌, ◌≢◌, ℕ, zero, suc, ◌+◌, length, drop, get_or, ◌<◌, Bool, true, false, List, [], ◌∷◌, refl, ap, arith}
+use Rattle.std.specs.Prelude.{◌↔◌, ◌&&◌, ◌==◌}
 use Rattle.std.specs.Str.{bytes_eq}
 use Rattle.std.proofs.lemmas.Slice.Eq.{bytes_eq-Decides}
 use Rattle.std.proofs.lemmas.Bool.{eqb-true}
-use Rattle.ccr_op.specs.Operation.{Operation, id_of}
+use Rattle.ccr_op.specs.Operation.{Operation}
 use Rattle.ccr_op.specs.declared.operation.Kind.{Kind}
 use Rattle.ccr_op.specs.declared.operation.Kind.TheVariants.{Index, Delete, NoOp}
-use Rattle.ccr_world.specs.Sets.{IsIn, HasNumber, IsCount, HasAbove, IsLive, IsAnswer, HasExactlyBelow}
+use Rattle.ccr_world.specs.Sets.{HasNumber, IsCount, HasAbove, IsLive, IsAnswer}
 use Rattle.ccr_world.specs.Rows.{same_kind, same_operation, same_operations}
 use Rattle.ccr_world.specs.declared.replies.ShardAnswer.{ShardAnswer}
-use Rattle.ccr_world.specs.declared.replies.Hit.{Hit}
 
 -- two sets have the same operations
 abbrev pub IsSameSet : (Operation → Type 0) → (Operation → Type 0) → Type 0

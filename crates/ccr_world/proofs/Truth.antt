@@ -1,43 +1,43 @@
 -- what holds at every place of a legal journal
-use Rattle.std.proofs.Common.{◌≡◌, ℕ, zero, suc, ◌+◌, ◌-◌, ◌<◌, ◌≤◌, Bool, true, false, List, [], ◌∷◌, ◌++◌, length, take, drop, max, refl, ap, subst, sym, ◌∙◌, inl, inr, ◌⊎◌, arith, rules, eqb, length-append}
-use Rattle.std.specs.Prelude.{◌↔◌, ◌&&◌, ◌==◌, IfSome, Option, Some, None, slice_get, remove, filter_map, nat_lt, if◌then◌else◌}
-use Rattle.std.specs.List.{AllByRecursion, list_any, find}
+use Rattle.std.proofs.Common.{◌≡◌, ℕ, zero, suc, ◌+◌, ◌-◌, Bool, true, false, List, [], ◌∷◌, ◌++◌, length, drop, max, refl, ap, subst, sym, ◌∙◌, inl, inr, ◌⊎◌, arith, length-append}
+use Rattle.std.specs.Prelude.{not, ◌==◌, IfSome, Option, Some, None, slice_get, remove, filter, filter_map, nat_lt, if◌then◌else◌}
+use Rattle.std.specs.List.{AllByRecursion, find}
 use Rattle.std.proofs.lemmas.Bool.{eqb-true}
-use Rattle.std.proofs.lemmas.Option.{slice_get_within}
-use Rattle.ccr_op.specs.Operation.{Operation, id_of}
+use Rattle.ccr_op.specs.Operation.{Operation}
 use Rattle.ccr_world.specs.Request.{Request}
 use Rattle.ccr_world.specs.Numbered.{IsNumbered}
-use Rattle.ccr_world.specs.Sets.{IsIn, HasNumber, IsAnswer, HasExactlyBelow}
-use Rattle.ccr_world.specs.State.{State, LeaderState, FollowerState, start_state}
-use Rattle.ccr_world.specs.Rows.{Outcome, has_number, with_new, read_from, same_operations, written_operation, wrote_after, write_row, deliver_row, wake_row, take_row, apply_row, write_at, leader_hears, follower_hears, refused}
-use Rattle.ccr_world.specs.Step.{IsReply, IsLegal, next, FindsOver, IsRefusal}
-use Rattle.ccr_world.specs.Past.{Past, IsCommitted, FollowerAnswers, AnswersTruly, HoldsCommitted, Headline, past_after, start_past, line_after, given_after}
-use Rattle.ccr_world.specs.declared.TheConstants.{MOST_READ_OPERATIONS}
-use Rattle.ccr_world.specs.declared.events.Message.{Message}
-use Rattle.ccr_world.specs.declared.events.Message.TheVariants.{ReadRequest, ReadReply}
+use Rattle.ccr_world.specs.Sets.{IsIn}
+use Rattle.ccr_world.specs.State.{State}
+use Rattle.ccr_world.specs.Rows.{Outcome, has_number, has_all, with_new, same_operations, written_operation, wrote_after, write_row, deliver_row, wake_row, take_row, apply_row, written_row, write_at, without_write, hears, answers_read, next_read, received, left_in_flight, ignored, refused}
+use Rattle.ccr_world.specs.Step.{IsReply, next}
+use Rattle.ccr_world.specs.Past.{Past, line_after, given_after}
+use Rattle.ccr_wire.specs.Message.{Frame}
+use Rattle.ccr_wire.specs.declared.content.Content.{Content}
+use Rattle.ccr_wire.specs.declared.content.Content.TheVariants.{ReadRequest, ReadReply, ReadMissing, ReadHistory, LeaseAdd, LeaseAdded, LeaseRenew, LeaseRemove, LeaseAnswer, SessionOpen, SessionOpened, ChunkRequest, ChunkReply, SessionGone, NotReady}
+use Rattle.ccr_world.specs.Reads.{run_from, reply_to, request_of}
 use Rattle.ccr_world.specs.declared.events.Poll.{Poll}
 use Rattle.ccr_world.specs.declared.events.OutstandingWrite.{OutstandingWrite}
-use Rattle.ccr_world.specs.declared.events.Side.{Side}
 use Rattle.ccr_world.specs.declared.events.Side.TheVariants as side
 use Rattle.ccr_world.specs.declared.events.Event.{Event}
-use Rattle.ccr_world.specs.declared.events.Event.TheVariants.{Write, Deliver, Wake, Take, Apply, Search}
-use Rattle.ccr_world.specs.declared.journals.Entry.{Entry}
+use Rattle.ccr_world.specs.declared.events.Event.TheVariants.{Write, Deliver, Wake, Take, Apply, Written as Ends, Search}
 use Rattle.ccr_world.specs.declared.replies.Reply.{Reply}
-use Rattle.ccr_world.specs.declared.replies.Reply.TheVariants.{Written, Heard, Took, Applied, Found, Refused}
-use Rattle.ccr_world.specs.declared.replies.ShardAnswer.{ShardAnswer}
+use Rattle.ccr_world.specs.declared.replies.Reply.TheVariants.{Heard, Applied, Done as Ended}
 use Rattle.ccr_world.specs.declared.replies.Heard.TheVariants.{Done, Parked}
-use Rattle.ccr_world.specs.declared.replies.Refusal.TheVariants.{NoFrame, NoPoll, Wait, NoBatch}
-use Rattle.ccr_world.proofs.Members.{IsIn-left, IsIn-right, IsIn-append, place_of, IsIn-slice_get, IsIn-take, place_in_front, IsIn-of_take, IsIn-of_drop, slice_get-append, slice_get-end, slice_get-one_more, All-append, All-push, All-at, All-from_members, All-map, All-remove, All-slice_get, filter_map-same}
-use Rattle.ccr_world.proofs.Sameness.{IsSameSet, IsAnswer-same, same_operations-equal}
+use Rattle.ccr_world.specs.declared.replies.Refusal.TheVariants.{Wait, NoBatch, NotWritten}
+use Rattle.ccr_world.proofs.Members.{IsIn-left, IsIn-right, IsIn-append, place_of, IsIn-of_take, IsIn-of_drop, slice_get-append, slice_get-one_more, All-push, All-at, All-from_members, All-map, All-remove, filter_map-same}
+use Rattle.ccr_world.proofs.Sameness.{IsSameSet, same_operations-equal}
 
 -- the operation is the line's of its number
 abbrev pub IsAt : List Operation → Operation → Type 0
 IsAt line op = slice_get line op.seq ≡ Some op
 
 -- the operations of a reply are the line's
-abbrev pub IsTrueMessage : List Operation → Message → Type 0
-IsTrueMessage line (ReadRequest from) = Unit {0}
-IsTrueMessage line (ReadReply from ops) = AllByRecursion (IsAt line) ops
+abbrev pub IsTrueContent : List Operation → Content → Type 0
+IsTrueContent line (ReadReply from global ops) = AllByRecursion (IsAt line) ops
+IsTrueContent line _ = Unit {0}
+
+abbrev pub IsTrueMessage : List Operation → Frame → Type 0
+IsTrueMessage line frame = IsTrueContent line frame.content
 
 -- the operations of a write are the line's
 abbrev pub IsTrueWrite : List Operation → OutstandingWrite → Type 0
@@ -65,18 +65,34 @@ IsNumbered-push line op e numbered n x h =
 IsAt-push : (line : List Operation) (op x : Operation) → IsAt line x → IsAt (line ++ op ∷ []) x
 IsAt-push line op x h = slice_get-append line (op ∷ []) x.seq x h
 
-IsTrueMessage-push : (line : List Operation) (op : Operation) (m : Message) → IsTrueMessage line m → IsTrueMessage (line ++ op ∷ []) m
-IsTrueMessage-push line op (ReadRequest from) h = tt
-IsTrueMessage-push line op (ReadReply from ops) h = All-map (IsAt line) (IsAt (line ++ op ∷ [])) ops (IsAt-push line op) h
+IsTrueContent-push : (line : List Operation) (op : Operation) (content : Content) → IsTrueContent line content → IsTrueContent (line ++ op ∷ []) content
+IsTrueContent-push line op (ReadReply from global ops) h = All-map (IsAt line) (IsAt (line ++ op ∷ [])) ops (IsAt-push line op) h
+IsTrueContent-push line op (ReadRequest history from max_ops max_bytes timeout) h = tt
+IsTrueContent-push line op (ReadMissing from floor) h = tt
+IsTrueContent-push line op (ReadHistory history) h = tt
+IsTrueContent-push line op (LeaseAdd id) h = tt
+IsTrueContent-push line op (LeaseAdded number) h = tt
+IsTrueContent-push line op (LeaseRenew id number) h = tt
+IsTrueContent-push line op (LeaseRemove id) h = tt
+IsTrueContent-push line op (LeaseAnswer outcome number) h = tt
+IsTrueContent-push line op SessionOpen h = tt
+IsTrueContent-push line op (SessionOpened session history count sizes) h = tt
+IsTrueContent-push line op (ChunkRequest session file offset size) h = tt
+IsTrueContent-push line op (ChunkReply session file offset bytes) h = tt
+IsTrueContent-push line op (SessionGone session) h = tt
+IsTrueContent-push line op (NotReady copy) h = tt
+
+IsTrueMessage-push : (line : List Operation) (op : Operation) (frame : Frame) → IsTrueMessage line frame → IsTrueMessage (line ++ op ∷ []) frame
+IsTrueMessage-push line op frame h = IsTrueContent-push line op frame.content h
 
 IsTrueWrite-push : (line : List Operation) (op : Operation) (w : OutstandingWrite) → IsTrueWrite line w → IsTrueWrite (line ++ op ∷ []) w
 IsTrueWrite-push line op w h = All-map (IsAt line) (IsAt (line ++ op ∷ [])) w.batch (IsAt-push line op) h
 
 -- a read brings operations of the line
-read_from-true : (line : List Operation) (from : ℕ) → IsNumbered line → AllByRecursion (IsAt line) (read_from line from)
-read_from-true line from numbered =
-    All-from_members (IsAt line) (read_from line from) (λ op there.
-    let p = place_of line op (IsIn-of_drop line from op (IsIn-of_take (drop from line) MOST_READ_OPERATIONS op there)) in
+run_from-true : (line : List Operation) (from max_ops : ℕ) → IsNumbered line → AllByRecursion (IsAt line) (run_from line from max_ops)
+run_from-true line from max_ops numbered =
+    All-from_members (IsAt line) (run_from line from max_ops) (λ op there.
+    let p = place_of line op (IsIn-of_drop line from op (IsIn-of_take (drop from line) max_ops op there)) in
     let e : op.seq ≡ p.0 = numbered p.0 op p.1 in
     subst (λ n. slice_get line n ≡ Some op) (sym e) p.1)
 
@@ -213,25 +229,26 @@ rests line cut given s inv = record {
   same = inv.same;
 }
 
-answer_true : (line : List Operation) (s : State) (from : ℕ) → s.leader.ops ≡ line → IsNumbered line → IsTrueMessage line (ReadReply from (read_from s.leader.ops from))
-answer_true line s from e numbered = subst (λ ops. AllByRecursion (IsAt line) (read_from ops from)) (sym e) (read_from-true line from numbered)
+answer_true : (line : List Operation) (s : State) (poll : Poll) → s.leader.ops ≡ line → IsNumbered line → IsTrueMessage line (reply_to s.leader.ops poll)
+answer_true line s poll e numbered =
+    subst (λ ops. AllByRecursion (IsAt line) (run_from ops poll.from poll.max_ops)) (sym e) (run_from-true line poll.from poll.max_ops numbered)
 
--- the leader takes a read whose message has left
-leader_hears_keeps : (line : List Operation) (cut : ℕ) (given : List Operation) (s : State) (from : ℕ) (b : Bool) → InvariantAt line cut given s
+-- the leader takes a read
+leader_hears_keeps : (line : List Operation) (cut : ℕ) (given : List Operation) (s : State) (poll : Poll) (b : Bool) → InvariantAt line cut given s
     → (let o : Outcome = (if b
-    then record { reply = Heard Done; next = record s { flight = s.flight ++ ReadReply from (read_from s.leader.ops from) ∷ [] } }
-    else record { reply = Heard Parked; next = record s { leader = record s.leader { polls = s.leader.polls ++ record { from = from } ∷ [] } } })
+    then record { reply = Heard Done; next = record s { flight = s.flight ++ reply_to s.leader.ops poll ∷ [] } }
+    else record { reply = Heard Parked; next = record s { leader = record s.leader { polls = s.leader.polls ++ poll ∷ [] } } })
     in InvariantAt line (max cut (length o.next.leader.ops)) given o.next)
-leader_hears_keeps line cut given s from true inv = record {
+leader_hears_keeps line cut given s poll true inv = record {
   leader = inv.leader;
   cut_is = cut_stays line cut s.leader.ops inv.leader inv.cut_is;
   numbered = inv.numbered;
-  flight = All-push (IsTrueMessage line) s.flight (ReadReply from (read_from s.leader.ops from)) inv.flight (answer_true line s from inv.leader inv.numbered);
+  flight = All-push (IsTrueMessage line) s.flight (reply_to s.leader.ops poll) inv.flight (answer_true line s poll inv.leader inv.numbered);
   writes = inv.writes;
   held = inv.held;
   same = inv.same;
 }
-leader_hears_keeps line cut given s from false inv = record {
+leader_hears_keeps line cut given s poll false inv = record {
   leader = inv.leader;
   cut_is = cut_stays line cut s.leader.ops inv.leader inv.cut_is;
   numbered = inv.numbered;
@@ -241,9 +258,11 @@ leader_hears_keeps line cut given s from false inv = record {
   same = inv.same;
 }
 
-without : (line : List Operation) (cut : ℕ) (given : List Operation) (s : State) (at : ℕ) → InvariantAt line cut given s
-    → InvariantAt line cut given (record s { flight = remove s.flight at })
-without line cut given s at inv = record {
+-- a message that is delivered leaves those in flight or stays
+left_keeps : (line : List Operation) (cut : ℕ) (given : List Operation) (s : State) (at : ℕ) (keep : Bool) → InvariantAt line cut given s
+    → InvariantAt line cut given (record s { flight = left_in_flight s.flight at keep })
+left_keeps line cut given s at true inv = inv
+left_keeps line cut given s at false inv = record {
   leader = inv.leader;
   cut_is = inv.cut_is;
   numbered = inv.numbered;
@@ -253,28 +272,60 @@ without line cut given s at inv = record {
   same = inv.same;
 }
 
-follower_hears_keeps : (line : List Operation) (cut : ℕ) (given : List Operation) (s : State) (from : ℕ) (ops : List Operation) → InvariantAt line cut given s
-    → AllByRecursion (IsAt line) ops
-    → InvariantAt line (max cut (length (follower_hears s from ops).next.leader.ops)) given (follower_hears s from ops).next
-follower_hears_keeps line cut given s from ops inv true_ops = record {
+-- the follower takes a reply, or ignores it
+follower_hears_keeps : (line : List Operation) (cut : ℕ) (given : List Operation) (s : State) (from : ℕ) (ops : List Operation) (b : Bool)
+    → InvariantAt line cut given s → AllByRecursion (IsAt line) ops
+    → (let o : Outcome = (if b
+    then record {
+      reply = Heard Done;
+      next = record s {
+        follower = received s.follower from ops;
+        flight = s.flight ++ request_of (next_read s.follower (from + length ops)) ∷ [];
+      };
+    }
+    else ignored s)
+    in InvariantAt line (max cut (length o.next.leader.ops)) given o.next)
+follower_hears_keeps line cut given s from ops true inv true_ops = record {
   leader = inv.leader;
   cut_is = cut_stays line cut s.leader.ops inv.leader inv.cut_is;
   numbered = inv.numbered;
-  flight = All-push (IsTrueMessage line) s.flight (ReadRequest (from + length ops)) inv.flight tt;
+  flight = All-push (IsTrueMessage line) s.flight (request_of (next_read s.follower (from + length ops))) inv.flight tt;
   writes = All-push (IsTrueWrite line) s.follower.writes (record { number = s.follower.next_write; batch = ops }) inv.writes true_ops;
   held = inv.held;
   same = inv.same;
 }
+follower_hears_keeps line cut given s from ops false inv true_ops = rests line cut given s inv
 
-deliver_keeps : (line : List Operation) (cut : ℕ) (given : List Operation) (s : State) (at : ℕ) (found : Option Message) → InvariantAt line cut given s
+-- the receiver takes a message
+hears_keeps : (line : List Operation) (cut : ℕ) (given : List Operation) (s : State) (follower : List ℕ) (request : ℕ) (content : Content)
+    → InvariantAt line cut given s → IsTrueContent line content
+    → InvariantAt line (max cut (length (hears s follower request content).next.leader.ops)) given (hears s follower request content).next
+hears_keeps line cut given s follower request (ReadRequest history from max_ops max_bytes timeout) inv true_content =
+    leader_hears_keeps line cut given s (record { follower = follower; request = request; from = from; max_ops = max_ops }) (nat_lt from (length s.leader.ops)) inv
+hears_keeps line cut given s follower request (ReadReply from global ops) inv true_content =
+    follower_hears_keeps line cut given s from ops (answers_read s.follower follower request) inv true_content
+hears_keeps line cut given s follower request (ReadMissing from floor) inv true_content = rests line cut given s inv
+hears_keeps line cut given s follower request (ReadHistory history) inv true_content = rests line cut given s inv
+hears_keeps line cut given s follower request (LeaseAdd id) inv true_content = rests line cut given s inv
+hears_keeps line cut given s follower request (LeaseAdded number) inv true_content = rests line cut given s inv
+hears_keeps line cut given s follower request (LeaseRenew id number) inv true_content = rests line cut given s inv
+hears_keeps line cut given s follower request (LeaseRemove id) inv true_content = rests line cut given s inv
+hears_keeps line cut given s follower request (LeaseAnswer outcome number) inv true_content = rests line cut given s inv
+hears_keeps line cut given s follower request SessionOpen inv true_content = rests line cut given s inv
+hears_keeps line cut given s follower request (SessionOpened session history count sizes) inv true_content = rests line cut given s inv
+hears_keeps line cut given s follower request (ChunkRequest session file offset size) inv true_content = rests line cut given s inv
+hears_keeps line cut given s follower request (ChunkReply session file offset bytes) inv true_content = rests line cut given s inv
+hears_keeps line cut given s follower request (SessionGone session) inv true_content = rests line cut given s inv
+hears_keeps line cut given s follower request (NotReady copy) inv true_content = rests line cut given s inv
+
+deliver_keeps : (line : List Operation) (cut : ℕ) (given : List Operation) (s : State) (at : ℕ) (keep : Bool) (found : Option Frame) → InvariantAt line cut given s
     → IfSome found (IsTrueMessage line)
-    → InvariantAt line (max cut (length (deliver_row s at found).next.leader.ops)) given (deliver_row s at found).next
+    → InvariantAt line (max cut (length (deliver_row s at keep found).next.leader.ops)) given (deliver_row s at keep found).next
 unfolding deliver_row
-deliver_keeps line cut given s at None inv true_found = rests line cut given s inv
-deliver_keeps line cut given s at (Some (ReadRequest from)) inv true_found =
-    leader_hears_keeps line cut given (record s { flight = remove s.flight at }) from (nat_lt from (length s.leader.ops)) (without line cut given s at inv)
-deliver_keeps line cut given s at (Some (ReadReply from ops)) inv true_found =
-    follower_hears_keeps line cut given (record s { flight = remove s.flight at }) from ops (without line cut given s at inv) true_found
+deliver_keeps line cut given s at keep None inv true_found = rests line cut given s inv
+deliver_keeps line cut given s at keep (Some frame) inv true_found =
+    hears_keeps line cut given (record s { flight = left_in_flight s.flight at keep }) frame.follower frame.request frame.content
+    (left_keeps line cut given s at keep inv) true_found
 
 wake_keeps : (line : List Operation) (cut : ℕ) (given : List Operation) (s : State) (at : ℕ) (found : Option Poll) → InvariantAt line cut given s
     → InvariantAt line (max cut (length (wake_row s at found).next.leader.ops)) given (wake_row s at found).next
@@ -287,7 +338,7 @@ wake_keeps line cut given s at (Some poll) inv =
       reply = Heard Done;
       next = record s {
         leader = record s.leader { polls = remove s.leader.polls at };
-        flight = s.flight ++ ReadReply poll.from (read_from s.leader.ops poll.from) ∷ [];
+        flight = s.flight ++ reply_to s.leader.ops poll ∷ [];
       };
     }
     else refused s (Wait (length s.leader.ops))) in
@@ -296,7 +347,7 @@ wake_keeps line cut given s at (Some poll) inv =
         leader = inv.leader;
         cut_is = cut_stays line cut s.leader.ops inv.leader inv.cut_is;
         numbered = inv.numbered;
-        flight = All-push (IsTrueMessage line) s.flight (ReadReply poll.from (read_from s.leader.ops poll.from)) inv.flight (answer_true line s poll.from inv.leader inv.numbered);
+        flight = All-push (IsTrueMessage line) s.flight (reply_to s.leader.ops poll) inv.flight (answer_true line s poll inv.leader inv.numbered);
         writes = inv.writes;
         held = inv.held;
         same = inv.same;
@@ -344,18 +395,49 @@ apply_keeps line cut given s number batch (Some w) inv true_found =
       | false ↦ λ e. rests line cut given s inv
     ] refl
 
+All-filter : {X : Type 0} (P : X → Type 0) (test : X → Bool) (xs : List X) → AllByRecursion P xs → AllByRecursion P (filter test xs)
+All-filter P test [] a = tt
+All-filter {X} P test (x ∷ xs) a =
+    elim (test x) as (λ b. AllByRecursion P (if b then x ∷ filter test xs else filter test xs)) [
+      | true ↦ (a.0, All-filter P test xs a.1)
+      | false ↦ All-filter P test xs a.1
+    ]
+
+written_keeps : (line : List Operation) (cut : ℕ) (given : List Operation) (s : State) (number : ℕ) (found : Option OutstandingWrite) → InvariantAt line cut given s
+    → InvariantAt line (max cut (length (written_row s number found).next.leader.ops)) given (written_row s number found).next
+unfolding written_row
+written_keeps line cut given s number None inv = rests line cut given s inv
+written_keeps line cut given s number (Some w) inv =
+    elim (has_all s.follower.ops w.batch) as (λ b.
+    let o : Outcome = (if b
+    then record { reply = Ended; next = record s { follower = record s.follower { writes = without_write s.follower.writes number } } }
+    else refused s (NotWritten 0)) in
+    InvariantAt line (max cut (length o.next.leader.ops)) given o.next) [
+      | true ↦ record {
+        leader = inv.leader;
+        cut_is = cut_stays line cut s.leader.ops inv.leader inv.cut_is;
+        numbered = inv.numbered;
+        flight = inv.flight;
+        writes = All-filter (IsTrueWrite line) (λ (w : OutstandingWrite). not (w.number == number)) s.follower.writes inv.writes;
+        held = inv.held;
+        same = inv.same;
+      }
+      | false ↦ rests line cut given s inv
+    ]
+
 pub keeps_event : (p : Past) (event : Event) (reply : Reply) → InvariantAt p.line p.cut p.given p.state → IsReply p.state event reply
     → InvariantAt (line_after p.line event reply) (max p.cut (length (next p.state event).leader.ops)) (given_after p.line p.given event reply) (next p.state event)
 unfolding write_row
 keeps_event p (Write request) reply inv e =
     subst (λ r. InvariantAt (line_after p.line (Write request) r) (max p.cut (length (next p.state (Write request)).leader.ops)) (given_after p.line p.given (Write request) r) (next p.state (Write request)))
     (sym e) (write_keeps p.line p.cut p.given p.state request inv)
-keeps_event p (Deliver at) reply inv e =
-    deliver_keeps p.line p.cut p.given p.state at (slice_get p.state.flight at) inv (All-if_some (IsTrueMessage p.line) p.state.flight at inv.flight)
+keeps_event p (Deliver at keep) reply inv e =
+    deliver_keeps p.line p.cut p.given p.state at keep (slice_get p.state.flight at) inv (All-if_some (IsTrueMessage p.line) p.state.flight at inv.flight)
 keeps_event p (Wake at) reply inv e = wake_keeps p.line p.cut p.given p.state at (slice_get p.state.leader.polls at) inv
 keeps_event p (Take number) reply inv e = take_keeps p.line p.cut p.given p.state number (write_at p.state number) inv
 keeps_event p (Apply number batch) reply inv e =
     subst (λ r. InvariantAt p.line (max p.cut (length (next p.state (Apply number batch)).leader.ops)) (given_after p.line p.given (Apply number batch) r) (next p.state (Apply number batch)))
     (sym e)
     (apply_keeps p.line p.cut p.given p.state number batch (write_at p.state number) inv (All-find (IsTrueWrite p.line) (λ (w : OutstandingWrite). w.number == number) p.state.follower.writes inv.writes))
+keeps_event p (Ends number) reply inv e = written_keeps p.line p.cut p.given p.state number (write_at p.state number) inv
 keeps_event p (Search side) reply inv e = rests p.line p.cut p.given p.state inv

@@ -1,10 +1,12 @@
 pub mod Request
 pub mod Sets
+pub mod Reads
 pub mod State
 pub mod Rows
 pub mod Step
 pub mod Past
 pub mod Numbered
+pub mod InFlight
 pub mod Recorded
 pub mod Held
 pub mod Example

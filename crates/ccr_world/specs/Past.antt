@@ -1,4 +1,4 @@
-use Rattle.std.specs.Prelude.{◌≡◌, ◌↔◌, ℕ, ◌<◌, max, List, [], ◌∷◌, ◌++◌, length, take, Some, slice_get}
+use Rattle.std.specs.Prelude.{◌≡◌, ℕ, ◌<◌, max, List, [], ◌∷◌, ◌++◌, length, take, Some, slice_get}
 use Rattle.std.specs.List.{AllByRecursion, filter_map}
 use Rattle.ccr_op.specs.Operation.{Operation}
 use Rattle.ccr_world.specs.Sets.{IsIn, IsAnswer, HasExactlyBelow}

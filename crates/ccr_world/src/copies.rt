@@ -3,7 +3,7 @@ ghost use Rattle.std.specs.BTreeMap.{IsOrdered, values};
 ghost use Rattle.std.specs.Cmp.Lexicographic.{slice_cmp};
 ghost use Rattle.std.specs.Ordering.{nat_cmp};
 ghost use Rattle.ccr_world.specs.Held.{IsIndex, IsNoted, hits_at, place_of};
-ghost use Rattle.ccr_world.specs.Rows.{has_number, is_about, live, only_index, with_new};
+ghost use Rattle.ccr_world.specs.Rows.{has_all, has_number, is_about, live, only_index, with_new};
 ghost use Rattle.ccr_world.specs.Sets.{IsAnswer, IsIn};
 
 use crate::replies::{Hit, Hits, ShardAnswer};
@@ -64,6 +64,18 @@ impl HeldOperations {
         ensures { result ≡ has_number self.now n }
     {
         self.processed.has(n)
+    }
+
+    /// Whether it holds an operation of the number of each of these. The cost of each is a logarithm.
+    pub fn has_all(&self, batch: &[Op]) -> bool
+        ensures { result ≡ has_all self.now batch.now }
+    {
+        for op in batch {
+            if !self.has(op.seq()) {
+                return false;
+            }
+        }
+        true
     }
 
     /// The operation that put the live document of this id in place. The cost is a logarithm.

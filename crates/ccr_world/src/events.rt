@@ -1,10 +1,11 @@
-ghost use Rattle.std.specs.Prelude.{◌≡◌, ◌++◌, ◌∷◌, [], List, length, take, IfOk, OnOk, OnErr};
+ghost use Rattle.std.specs.Prelude.{◌≡◌, List, IfOk};
 ghost use Rattle.ccr_op.specs.Operation.{IsSourceText};
 ghost use Rattle.ccr_world.specs.Rows.{same_kind, same_operation, same_operations};
 
 use ccr_op::{Body, Count, DocId, Kind, Op};
 use std::alloc::{AllocError, Global};
 use std::marker::Model;
+use uuid::Uuid;
 
 /// Which copies an event is about.
 #[derive(Clone, Copy, Debug, PartialEq, Eq)]
@@ -167,18 +168,20 @@ impl WriteRequest {
     }
 }
 
-/// A message between the leader and the follower.
-#[derive(Debug, Drop)]
-pub enum Message {
-    /// To the leader: asks for the operations from this number on.
-    ReadRequest { from: Count },
-    /// To the follower: the operations with the numbers from this one on.
-    ReadReply { from: Count, ops: Batch },
+/// A read that waits at the leader for an operation of its number: whose it is, under which request
+/// number, from which number on, and at most how many operations it takes.
+#[derive(Clone, Copy)]
+pub struct Poll {
+    pub follower: Uuid,
+    pub request: u64,
+    pub from: Count,
+    pub max_ops: u64,
 }
 
-/// A read that waits at the leader for an operation of its number.
+/// The read of a follower whose answer it takes: its request number, and the number from which on it reads.
 #[derive(Clone, Copy, Debug, PartialEq, Eq)]
-pub struct Poll {
+pub struct OutstandingRead {
+    pub request: u64,
     pub from: Count,
 }
 
@@ -194,14 +197,17 @@ pub struct OutstandingWrite {
 pub enum Event {
     /// A client writes a document at the leader.
     Write { request: WriteRequest },
-    /// The message at a place of those in flight comes to its receiver.
-    Deliver { at: u64 },
+    /// The message at a place of those in flight comes to its receiver. Unless it is kept, it leaves those in
+    /// flight first; one that is kept may come again.
+    Deliver { at: u64, keep: bool },
     /// The poll at a place, oldest first, is answered if there is something to answer.
     Wake { at: u64 },
     /// A copy of the batch of an outstanding write is taken.
     Take { write: u64 },
     /// The follower applies the batch of an outstanding write.
     Apply { write: u64, batch: Batch },
+    /// An outstanding write ends, once each of its operations was processed.
+    Written { write: u64 },
     /// A client searches all documents of a copy.
     Search { side: Side },
 }
@@ -216,7 +222,10 @@ impl Event {
                 let request = request.copy(alloc)?;
                 Ok(Event::Write { request })
             }
-            Event::Deliver { at } => Ok(Event::Deliver { at: *at }),
+            Event::Deliver { at, keep } => Ok(Event::Deliver {
+                at: *at,
+                keep: *keep,
+            }),
             Event::Wake { at } => Ok(Event::Wake { at: *at }),
             Event::Take { write } => Ok(Event::Take { write: *write }),
             Event::Apply { write, batch } => {
@@ -226,6 +235,7 @@ impl Event {
                     batch,
                 })
             }
+            Event::Written { write } => Ok(Event::Written { write: *write }),
             Event::Search { side } => Ok(Event::Search { side: *side }),
         }
     }

@@ -1,7 +1,7 @@
 ghost use Rattle.std.specs.Prelude.{◌≡◌, List};
 ghost use Rattle.ccr_world.specs.State.{State, start_state};
 ghost use Rattle.ccr_world.specs.Step.{IsLegal, IsReply, IsRefusal, next};
-ghost use Rattle.ccr_world.specs.Example.{first_path};
+ghost use Rattle.ccr_world.specs.Example.{first_path, repeated_frame};
 ghost use Rattle.ccr_world.specs.Past.{Headline, start_past};
 ghost use Rattle.ccr_world.specs.declared.journals.Entry.{Entry};
 ghost use Rattle.ccr_world.specs.declared.events.Event.{Event};
@@ -15,7 +15,12 @@ pub fn every_place()
     ensures refused { (s : State) (event : Event) (reply : Reply) → IsReply s event reply → IsRefusal reply → next s event ≡ s }
 {}
 
-/// The worked example: one write travels to the follower and is found there, with these replies.
+/// The worked example: one write travels to the follower, ends, and is found there, with these replies.
 pub fn first_path_example()
     ensures { IsLegal start_state first_path }
+{}
+
+/// A reply that comes three times is taken once, and operations that are applied twice are taken once.
+pub fn repeated_frame_example()
+    ensures { IsLegal start_state repeated_frame }
 {}

@@ -1,12 +1,15 @@
-ghost use Rattle.std.specs.Prelude.{◌≡◌, ◌++◌, ◌∷◌, ◌<◌, ◌^◌, ◌-◌, [], length, drop, take, nat_lt, if◌then◌else◌, Some, None, IfOk, OnOk, slice_get, remove};
-ghost use Rattle.ccr_world.specs.Rows.{read_from, written_operation, wrote_after};
+ghost use Rattle.std.specs.Prelude.{◌≡◌, ◌++◌, ◌∷◌, ◌<◌, ◌≤◌, ◌^◌, ◌-◌, [], length, drop, take, nat_lt, if◌then◌else◌, Some, None, IfOk, OnOk, OnErr, slice_get, remove};
+ghost use Rattle.ccr_world.specs.Reads.{first_read, poll_of, reply_to};
+ghost use Rattle.ccr_world.specs.Rows.{written_operation, wrote_after};
+ghost use Rattle.ccr_world.specs.declared.TheConstants.{MOST_READ_OPERATIONS};
 ghost use Rattle.ccr_world.specs.State.{LeaderState};
 
-use crate::MOST_READ_OPERATIONS;
 use crate::copies::HeldOperations;
-use crate::events::{Batch, Poll, WriteRequest, copy_ops};
+use crate::events::{Poll, WriteRequest, copy_ops};
+use crate::reads::{first_read, poll_of};
 use crate::replies::{WriteResult, Wrote};
 use ccr_op::{Count, Op};
+use ccr_wire::{Content, Message, Ops};
 use std::alloc::{AllocError, Global};
 use std::marker::Model;
 
@@ -29,12 +32,12 @@ impl Model for Leader {
 }
 
 impl Leader {
-    /// A leader with no operation, at which one read from 0 on is parked.
+    /// A leader with no operation, at which the follower's first read is parked.
     pub fn new(alloc: Global) -> Result<Self, AllocError>
-        ensures { IfOk result (λ leader. leader ≡ record { ops = []; polls = record { from = 0 } ∷ [] }) }
+        ensures { IfOk result (λ leader. leader ≡ record { ops = []; polls = poll_of first_read ∷ [] }) }
     {
         let mut polls = Vec::new(alloc);
-        polls.push(Poll { from: 0 })?;
+        polls.push(poll_of(first_read()))?;
         Ok(Leader {
             held: HeldOperations::new(alloc),
             polls,
@@ -55,13 +58,14 @@ impl Leader {
         self.held.len()
     }
 
-    /// Takes a write under the next number.
+    /// Takes a write under the next number. After want of memory it is as before.
     #[tactic(auto, using(crate::proofs::Numbering::numbering))]
     pub fn write(&mut self, alloc: Global, request: &WriteRequest) -> Result<Wrote, AllocError>
         ensures reply { IfOk result (λ wrote. wrote ≡ wrote_after self.old.ops request.now) }
         ensures after { IfOk result (λ wrote. self.new ≡ record self.old {
           ops = self.old.ops ++ written_operation request.now wrote ∷ [];
         }) }
+        ensures err { OnErr result (self.new ≡ self.old) }
     {
         let wrote = next_write(&self.held, request)?;
         let id = request.id().copy(alloc)?;
@@ -71,24 +75,34 @@ impl Leader {
         Ok(wrote)
     }
 
-    /// The operations that a read from this number on brings, or `None` where it has to wait.
-    pub fn read(&self, alloc: Global, from: Count) -> Result<Option<Batch>, AllocError>
-        ensures { IfOk result (λ ops. ops ≡
-            (if nat_lt from (length self.now.ops) then Some (read_from self.now.ops from) else None)) }
+    /// The answer to a read: the operations from its number on, as many as it takes. `None` where it has to
+    /// wait.
+    #[tactic(auto, using(crate::proofs::Runs::runs))]
+    pub fn answer(&self, alloc: Global, poll: &Poll) -> Result<Option<Message>, AllocError>
+        requires { poll.now.max_ops ≤ MOST_READ_OPERATIONS }
+        ensures { IfOk result (λ reply. reply ≡
+            (if nat_lt poll.now.from (length self.now.ops) then Some (reply_to self.now.ops poll.now) else None)) }
     {
-        if from >= self.held.len() {
+        let global = self.held.len();
+        if poll.from >= global {
             return Ok(None);
         }
-        let run = front(rest_from(self.held.as_slice(), from), MOST_READ_OPERATIONS);
-        let ops = copy_ops(alloc, run)?;
-        Ok(Some(Batch::new(ops)))
+        let run = front(rest_from(self.held.as_slice(), poll.from), poll.max_ops);
+        let ops = Ops::new(copy_ops(alloc, run)?);
+        let content = Content::ReadReply {
+            from: poll.from,
+            global,
+            ops,
+        };
+        Ok(Some(Message::new(poll.follower, poll.request, content)))
     }
 
-    /// Parks a read.
-    pub fn park(&mut self, from: Count) -> Result<(), AllocError>
-        ensures { OnOk result (self.new ≡ record self.old { polls = self.old.polls ++ record { from = from } ∷ [] }) }
+    /// Parks a read. After want of memory it is as before.
+    pub fn park(&mut self, poll: Poll) -> Result<(), AllocError>
+        ensures err { OnErr result (self.new ≡ self.old) }
+        ensures ok { OnOk result (self.new ≡ record self.old { polls = self.old.polls ++ poll ∷ [] }) }
     {
-        self.polls.push(Poll { from })?;
+        self.polls.push(poll)?;
         Ok(())
     }
 

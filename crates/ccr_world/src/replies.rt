@@ -1,4 +1,4 @@
-ghost use Rattle.std.specs.Prelude.{◌≡◌, IfOk, take};
+ghost use Rattle.std.specs.Prelude.{◌≡◌, IfOk};
 
 use crate::events::Batch;
 use ccr_op::{Body, Count, DocId, Term};
@@ -28,6 +28,8 @@ pub enum Heard {
     Done,
     /// The read waits for an operation of its number.
     Parked,
+    /// It waits for no such message, and did nothing.
+    Ignored,
 }
 
 /// Why an event was refused. A refused event changes nothing but the journal.
@@ -41,6 +43,8 @@ pub enum Refusal {
     Wait { global: Count },
     /// No write of that number is outstanding, or it has other operations.
     NoBatch { write: u64 },
+    /// The copy of this number has not processed an operation of the write.
+    NotWritten { copy: u32 },
 }
 
 /// A document that a search found.
@@ -139,11 +143,19 @@ impl ShardAnswer {
 /// What an event is answered.
 #[derive(Debug, Drop)]
 pub enum Reply {
+    /// The operation that a write became.
     Written(Wrote),
+    /// What the receiver of a message, or of a wake, did.
     Heard(Heard),
+    /// The operations of an outstanding write.
     Took { batch: Batch },
+    /// How many operations of an outstanding write were not processed before.
     Applied { new: u64 },
+    /// The outstanding write ended.
+    Done,
+    /// What a search found.
     Found { answer: ShardAnswer },
+    /// Nothing was done.
     Refused(Refusal),
 }
 
@@ -160,6 +172,7 @@ impl Reply {
                 Ok(Reply::Took { batch })
             }
             Reply::Applied { new } => Ok(Reply::Applied { new: *new }),
+            Reply::Done => Ok(Reply::Done),
             Reply::Found { answer } => {
                 let answer = answer.copy(alloc)?;
                 Ok(Reply::Found { answer })

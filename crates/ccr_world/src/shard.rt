@@ -1,15 +1,22 @@
-ghost use Rattle.std.specs.Prelude.{◌≡◌, ◌++◌, ◌∷◌, [], IfOk, OnOk, slice_get};
-ghost use Rattle.ccr_world.specs.Rows.{apply_row, deliver_row, follower_hears, leader_hears, take_row, wake_row, write_at, write_row};
+ghost use Rattle.std.specs.Prelude.{◌≡◌, ◌≤◌, IfOk, OnOk, slice_get, option_copied, option_map};
+ghost use Rattle.ccr_wire.specs.Spelling.{spelling};
+ghost use Rattle.ccr_world.specs.Reads.{IsBoundedRead};
+ghost use Rattle.ccr_world.specs.Rows.{apply_row, deliver_row, follower_hears, hears, leader_hears, take_row, wake_row, write_at, write_row, written_row};
 ghost use Rattle.ccr_world.specs.State.{State, start_state};
 ghost use Rattle.ccr_world.specs.Step.{FindsOver, IsReply, next, operations_of};
+ghost use Rattle.ccr_world.specs.declared.TheConstants.{MOST_READ_OPERATIONS};
 
-use crate::events::{Batch, Event, Message, Side, WriteRequest};
+use crate::events::{Batch, Event, Poll, Side, WriteRequest};
+use crate::flight::Flight;
 use crate::follower::Follower;
 use crate::leader::Leader;
 use crate::replies::{Heard, Refusal, Reply};
+use bytes::Bytes;
 use ccr_op::Count;
+use ccr_wire::{Content, Message, Ops};
 use std::alloc::{AllocError, Global};
 use std::marker::Model;
+use uuid::Uuid;
 
 /// The state of a shard world: both copies and the messages in flight, oldest first.
 #[derive(Drop)]
@@ -17,15 +24,18 @@ pub struct Shard {
     alloc: Global,
     leader: Leader,
     follower: Follower,
-    flight: Vec<Message>,
+    flight: Flight,
 }
 
 impl Model for Shard {
+    ghost use Rattle.ccr_world.specs.Reads.{HasBoundedReads};
     ghost use Rattle.ccr_world.specs.State.{State};
 
     ghost Value = { State };
 
-    ghost view = { λ a. record { leader = a.leader; follower = a.follower; flight = a.flight.items } };
+    ghost view = { λ a. record { leader = a.leader; follower = a.follower; flight = a.flight } };
+
+    ghost invariant = { λ a. HasBoundedReads a.leader.polls a.flight };
 }
 
 impl Shard {
@@ -38,7 +48,7 @@ impl Shard {
             alloc,
             leader,
             follower: Follower::new(alloc),
-            flight: Vec::new(alloc),
+            flight: Flight::new(alloc),
         })
     }
 
@@ -49,10 +59,11 @@ impl Shard {
     {
         match event {
             Event::Write { request } => self.write(request),
-            Event::Deliver { at } => self.deliver(*at),
+            Event::Deliver { at, keep } => self.deliver(*at, *keep),
             Event::Wake { at } => self.wake(*at),
             Event::Take { write } => self.take(*write),
             Event::Apply { write, batch } => self.apply(*write, batch),
+            Event::Written { write } => self.written(*write),
             Event::Search { side } => self.search(*side),
         }
     }
@@ -66,52 +77,78 @@ impl Shard {
         Ok(Reply::Written(wrote))
     }
 
-    #[tactic(auto, unfolding(crate::specs::Rows::deliver_row))]
-    fn deliver(&mut self, at: u64) -> Result<Reply, AllocError>
-        ensures reply { IfOk result (λ reply. reply ≡ (deliver_row self.old at (slice_get self.old.flight at)).reply) }
-        ensures after { OnOk result (self.new ≡ (deliver_row self.old at (slice_get self.old.flight at)).next) }
+    #[tactic(auto, unfolding(crate::specs::Rows::deliver_row), using(crate::proofs::Bounds::bounds))]
+    fn deliver(&mut self, at: u64, keep: bool) -> Result<Reply, AllocError>
+        ensures reply { IfOk result (λ reply. reply ≡ (deliver_row self.old at keep (slice_get self.old.flight at)).reply) }
+        ensures after { OnOk result (self.new ≡ (deliver_row self.old at keep (slice_get self.old.flight at)).next) }
     {
-        if at >= self.flight.len() as u64 {
+        let Some(message) = self.flight.read(self.alloc, at)? else {
             return Ok(Reply::Refused(Refusal::NoFrame { at }));
-        }
-        match self.flight.remove(at as usize) {
-            Message::ReadRequest { from } => self.hear_read(from),
-            Message::ReadReply { from, ops } => self.hear_reply(from, ops),
+        };
+        self.flight.leave(at, keep);
+        self.hear(message)
+    }
+
+    // The receiver of a message takes it.
+    fn hear(&mut self, message: Message) -> Result<Reply, AllocError>
+        requires { IsBoundedRead message.content }
+        ensures reply { IfOk result (λ reply. reply ≡ (hears self.old message.follower message.request message.content).reply) }
+        ensures after { OnOk result (self.new ≡ (hears self.old message.follower message.request message.content).next) }
+    {
+        let follower = message.follower();
+        let request = message.request();
+        match message.into_content() {
+            Content::ReadRequest { from, max_ops, .. } => self.hear_read(Poll {
+                follower,
+                request,
+                from,
+                max_ops,
+            }),
+            Content::ReadReply { from, ops, .. } => self.hear_reply(follower, request, from, ops),
+            _ => Ok(Reply::Heard(Heard::Ignored)),
         }
     }
 
     // The leader takes a read.
-    fn hear_read(&mut self, from: Count) -> Result<Reply, AllocError>
-        ensures reply { IfOk result (λ reply. reply ≡ (leader_hears self.old from).reply) }
-        ensures after { OnOk result (self.new ≡ (leader_hears self.old from).next) }
+    #[tactic(auto, using(crate::proofs::Bounds::bounds))]
+    fn hear_read(&mut self, poll: Poll) -> Result<Reply, AllocError>
+        requires { poll.max_ops ≤ MOST_READ_OPERATIONS }
+        ensures reply { IfOk result (λ reply. reply ≡ (leader_hears self.old poll).reply) }
+        ensures after { OnOk result (self.new ≡ (leader_hears self.old poll).next) }
     {
-        match self.leader.read(self.alloc, from)? {
-            Some(ops) => {
-                self.flight.push(Message::ReadReply { from, ops })?;
+        match self.leader.answer(self.alloc, &poll)? {
+            Some(reply) => {
+                self.flight.send(self.alloc, &reply)?;
                 Ok(Reply::Heard(Heard::Done))
             }
             None => {
-                self.leader.park(from)?;
+                self.leader.park(poll)?;
                 Ok(Reply::Heard(Heard::Parked))
             }
         }
     }
 
-    // The follower takes a reply, and the next read goes out.
-    fn hear_reply(&mut self, from: Count, ops: Batch) -> Result<Reply, AllocError>
-        ensures reply { IfOk result (λ reply. reply ≡ (follower_hears self.old from ops).reply) }
-        ensures after { OnOk result (self.new ≡ (follower_hears self.old from ops).next) }
+    // The follower takes the reply to its read, and the next read goes out; it ignores any other.
+    #[tactic(auto, using(crate::proofs::Bounds::bounds))]
+    fn hear_reply(
+        &mut self,
+        to: Uuid,
+        request: u64,
+        from: Count,
+        ops: Ops,
+    ) -> Result<Reply, AllocError>
+        ensures reply { IfOk result (λ reply. reply ≡ (follower_hears self.old to request from ops).reply) }
+        ensures after { OnOk result (self.new ≡ (follower_hears self.old to request from ops).next) }
     {
-        let count = ops.as_slice().len() as u64;
-        let Some(end) = from.checked_add(count) else {
-            return Err(AllocError);
-        };
-        self.follower.receive(ops)?;
-        self.flight.push(Message::ReadRequest { from: end })?;
+        if !self.follower.awaits(to, request) {
+            return Ok(Reply::Heard(Heard::Ignored));
+        }
+        let ask = self.follower.receive(from, Batch::new(ops.into_vec()))?;
+        self.flight.send(self.alloc, &ask)?;
         Ok(Reply::Heard(Heard::Done))
     }
 
-    #[tactic(auto, unfolding(crate::specs::Rows::wake_row))]
+    #[tactic(auto, unfolding(crate::specs::Rows::wake_row), using(crate::proofs::Bounds::bounds))]
     fn wake(&mut self, at: u64) -> Result<Reply, AllocError>
         ensures reply { IfOk result (λ reply. reply ≡ (wake_row self.old at (slice_get self.old.leader.polls at)).reply) }
         ensures after { OnOk result (self.new ≡ (wake_row self.old at (slice_get self.old.leader.polls at)).next) }
@@ -119,15 +156,12 @@ impl Shard {
         let Some(poll) = self.leader.poll(at) else {
             return Ok(Reply::Refused(Refusal::NoPoll { at }));
         };
-        let Some(ops) = self.leader.read(self.alloc, poll.from)? else {
+        let Some(reply) = self.leader.answer(self.alloc, &poll)? else {
             let global = self.leader.count();
             return Ok(Reply::Refused(Refusal::Wait { global }));
         };
         self.leader.end_poll(at);
-        self.flight.push(Message::ReadReply {
-            from: poll.from,
-            ops,
-        })?;
+        self.flight.send(self.alloc, &reply)?;
         Ok(Reply::Heard(Heard::Done))
     }
 
@@ -158,6 +192,21 @@ impl Shard {
         Ok(Reply::Applied { new })
     }
 
+    #[tactic(auto, unfolding(crate::specs::Rows::written_row))]
+    fn written(&mut self, number: u64) -> Result<Reply, AllocError>
+        ensures reply { IfOk result (λ reply. reply ≡ (written_row self.old number (write_at self.old number)).reply) }
+        ensures after { OnOk result (self.new ≡ (written_row self.old number (write_at self.old number)).next) }
+    {
+        let Some(write) = self.follower.write(number) else {
+            return Ok(Reply::Refused(Refusal::NoBatch { write: number }));
+        };
+        if !self.follower.has_all(write.batch.as_slice()) {
+            return Ok(Reply::Refused(Refusal::NotWritten { copy: 0 }));
+        }
+        self.follower.end_write(number);
+        Ok(Reply::Done)
+    }
+
     fn search(&mut self, side: Side) -> Result<Reply, AllocError>
         ensures reply { IfOk result (λ reply. FindsOver (operations_of self.old side) reply) }
         ensures after { OnOk result (self.new ≡ self.old) }
@@ -167,5 +216,12 @@ impl Shard {
             Side::Follower => self.follower.held().search(self.alloc)?,
         };
         Ok(Reply::Found { answer })
+    }
+
+    /// The bytes of the message in flight at a place.
+    pub fn frame(&self, at: usize) -> Option<&Bytes>
+        ensures { option_copied result ≡ option_map spelling (slice_get self.now.flight at) }
+    {
+        self.flight.frame(at)
     }
 }

@@ -1,4 +1,5 @@
-ghost use Rattle.std.specs.Prelude.{◌≡◌, ◌++◌, ◌∷◌, [], true, false, IfOk, OnOk, OnErr};
+ghost use Rattle.std.specs.Prelude.{◌≡◌, ◌++◌, ◌∷◌, [], true, false, IfOk, OnOk, OnErr, slice_get, option_copied, option_map};
+ghost use Rattle.ccr_wire.specs.Spelling.{spelling};
 ghost use Rattle.ccr_world.specs.State.{start_state};
 ghost use Rattle.ccr_world.specs.Step.{IsLegal, IsRefusal, IsReply, state_after};
 
@@ -6,6 +7,7 @@ use crate::events::Event;
 use crate::journals::{Entry, Journal};
 use crate::replies::Reply;
 use crate::shard::Shard;
+use bytes::Bytes;
 use std::alloc::{AllocError, Global};
 use std::marker::Model;
 
@@ -44,9 +46,9 @@ impl World {
     }
 
     /// Does one event, and enters it with its reply at the end of the journal. A refused event changes
-    /// nothing else. The cost of a search goes with the documents of the copy, that of an apply with the
-    /// batch, and that of every other event with what it reads and moves, times at most a logarithm of
-    /// the copy's operations.
+    /// nothing else. The cost of a search goes with the documents of the copy, and that of every other
+    /// event with the messages in flight, the writes that stand, and what it reads and moves, times at most
+    /// a logarithm of the copy's operations.
     #[tactic(auto, using(crate::proofs::Recording::recording))]
     pub fn step(&mut self, event: &Event) -> Result<Reply, AllocError>
         ensures entry { IfOk result (λ reply. self.new ≡ record self.old {
@@ -70,6 +72,15 @@ impl World {
         self.journal.push(Entry { event: kept, reply })?;
         self.broken = false;
         Ok(answer)
+    }
+
+    /// The bytes of the message at a place of those in flight, counted from the oldest: `None` exactly where
+    /// there are not that many. Of a broken world nothing is said.
+    pub fn frame(&self, at: usize) -> Option<&Bytes>
+        ensures { self.now.broken ≡ false → option_copied result
+            ≡ option_map spelling (slice_get (state_after start_state self.now.journal).flight at) }
+    {
+        self.shard.frame(at)
     }
 
     /// The journal.

@@ -1,5 +1,5 @@
 use Rattle.std.proofs.Common.{◌≡◌, ◌<◌, length, ap, arith, true, false, Ok}
-use Rattle.ccr_run.proofs.Parts.{goes-on, line-ends, line-over, given-over, line-finishes}
+use Rattle.ccr_run.proofs.Parts.{breaks-off, goes-on, line-ends, line-over, given-over, line-finishes}
 use Rattle.ccr_run.proofs.lines.read_line.Goals as goal
 
 pub returns-then-len-gt-MOST_LINE_BYTES-clause-too_long : goal.returns-then-len-gt-MOST_LINE_BYTES-clause-too_long
@@ -7,27 +7,34 @@ returns-then-len-gt-MOST_LINE_BYTES-clause-too_long g c _ =
     let long : 1048576 < length c.give.new.line.items = omega arith in
     let ended : c.give.result ≡ Ok true = cc in
     given-over _ _ _ _ long
-    (line-ends _ (g.S.Source.left c.pieces.from) c.pieces.chunk c.give.new.self c.pieces.bytes.items c.give.new.line.items
+    (line-ends _ (g.S.Source.left c.pieces.from) c.pieces.chunk.bytes c.give.new.self.bytes c.pieces.bytes.items c.give.new.line.items
     c.pieces.invariant.plain c.pieces.invariant.taken (c.give.ensures.ended ended))
 
 pub returns-in-Ok-true-clause-line : goal.returns-in-Ok-true-clause-line
 returns-in-Ok-true-clause-line g c =
     let ended : c.give.result ≡ Ok true = cc in
-    line-ends _ (g.S.Source.left c.pieces.from) c.pieces.chunk c.give.new.self c.pieces.bytes.items c.give.new.line.items
+    line-ends _ (g.S.Source.left c.pieces.from) c.pieces.chunk.bytes c.give.new.self.bytes c.pieces.bytes.items c.give.new.line.items
     c.pieces.invariant.plain c.pieces.invariant.taken (c.give.ensures.ended ended)
 
 pub returns-then-len-gt-MOST_LINE_BYTES-2-clause-too_long : goal.returns-then-len-gt-MOST_LINE_BYTES-2-clause-too_long
 returns-then-len-gt-MOST_LINE_BYTES-2-clause-too_long g c _ =
     let long : 1048576 < length c.give.new.line.items = omega arith in
     let went : c.give.result ≡ Ok false = cc in
-    let on = goes-on _ (g.S.Source.left c.pieces.from) c.pieces.chunk c.give.new.self c.pieces.bytes.items c.give.new.line.items
+    let on = goes-on _ (g.S.Source.left c.pieces.from) c.pieces.chunk.bytes c.give.new.self.bytes c.pieces.bytes.items c.give.new.line.items
     c.pieces.invariant.plain c.pieces.invariant.taken (c.give.ensures.goes_on went) in
     line-over _ _ c.give.new.line.items _ on.0 long on.1
+
+pub returns-in_err-has_more-clause-broken_off : goal.returns-in_err-has_more-clause-broken_off
+returns-in_err-has_more-clause-broken_off g c _ =
+    let went : c.give.result ≡ Ok false = cc in
+    breaks-off _ (g.S.Source.left c.pieces.from) (g.S.Source.left c.has_more.new.from) c.pieces.chunk.bytes c.give.new.self.bytes c.has_more.new.chunk.bytes
+    c.pieces.bytes.items c.give.new.line.items c.pieces.invariant.plain c.pieces.invariant.taken (c.give.ensures.goes_on went)
+    c.has_more.ensures.rest c.in_err-has_more.ensures.none.0
 
 pub returns-then-not-branch-clause-line : goal.returns-then-not-branch-clause-line
 returns-then-not-branch-clause-line g c =
     let went : c.give.result ≡ Ok false = cc in
     let end = c.in_ok-has_more.ensures.end (ap (λ b. Ok b) c.if-not-branch.true) in
-    line-finishes _ (g.S.Source.left c.pieces.from) (g.S.Source.left c.has_more.new.from) c.pieces.chunk c.give.new.self c.has_more.new.chunk c.pieces.bytes.items c.give.new.line.items
+    line-finishes _ (g.S.Source.left c.pieces.from) (g.S.Source.left c.has_more.new.from) c.pieces.chunk.bytes c.give.new.self.bytes c.has_more.new.chunk.bytes c.pieces.bytes.items c.give.new.line.items
     c.pieces.invariant.plain c.pieces.invariant.taken c.pieces.invariant.begun (c.give.ensures.goes_on went)
-    c.in_ok-has_more.ensures.rest end.0 end.1
+    c.in_ok-has_more.ensures.rest end.0 end.2

@@ -1,0 +1,4 @@
+pub mod Falling
+pub mod Markers
+pub mod Matching
+pub mod Ordered

@@ -1,0 +1,25 @@
+//! What happens in a shard world and what it is answered: the events, their replies, and the journal of
+//! both. A shard world is one leader shard, the follower shards that replicate it, and the messages between
+//! them. A place counts from 0.
+#![tactic(auto)]
+
+mod batches;
+mod events;
+mod journals;
+mod params;
+mod replies;
+mod requests;
+mod sides;
+mod statuses;
+
+pub use batches::Batch;
+pub use events::{Event, SortKeys};
+pub use journals::{Entry, Journal};
+pub use params::{ParamValues, Params};
+pub use replies::{ExpiredLeases, Heard, Refusal, Reply, WriteResult, Wrote};
+pub use requests::WriteRequest;
+pub use sides::{CopyCount, Phase, Side};
+pub use statuses::{CopyStatus, CopyStatuses, KeptLeases};
+
+#[cfg(test)]
+mod tests;

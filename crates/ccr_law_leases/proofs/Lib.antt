@@ -1,0 +1,9 @@
+pub mod Answers
+pub mod Collections
+pub mod Finding
+pub mod Keeping
+pub mod Messages
+pub mod Notes
+pub mod Ordering
+pub mod Rows
+pub mod Saying

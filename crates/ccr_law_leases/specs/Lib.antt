@@ -1,0 +1,2 @@
+pub mod NoteOrder
+pub mod TrueLeases

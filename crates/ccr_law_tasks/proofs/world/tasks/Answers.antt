@@ -1,0 +1,11 @@
+use Rattle.ccr_law_tasks.proofs.TaskGroup.{tasks-start, tasks-keep, tasks-say}
+use Rattle.ccr_law_tasks.proofs.world.tasks.Goals as goal
+
+pub returns-clause-start : goal.returns-clause-start
+returns-clause-start c = tasks-start
+
+pub returns-clause-keeps : goal.returns-clause-keeps
+returns-clause-keeps c = tasks-keep
+
+pub returns-clause-says : goal.returns-clause-says
+returns-clause-says c = tasks-say

@@ -1,0 +1,28 @@
+-- When nothing is left to be done in a shard world.
+use Rattle.std.specs.Prelude.{ℕ, Bool, false, not, ◌&&◌, ◌||◌, ◌==◌, nat_le, is_none}
+use Rattle.std.specs.List.{list_all}
+use Rattle.ccr_model.specs.Operations.{is_empty}
+use Rattle.ccr_model.specs.Copies.{Copy, all_copies, not_ready}
+use Rattle.ccr_model.specs.Tasks.{is_active}
+use Rattle.ccr_model.specs.Followers.{Follower, restoring, replicating}
+use Rattle.ccr_model.specs.World.{State}
+
+-- the copy has processed all numbers below the count and knows it
+abbrev pub is_whole : ℕ → Copy → Bool
+is_whole count c = nat_le count c.seen.count && (c.global == count)
+
+-- a follower is out of its bootstrap, its copies are whole where it is active, and it has nothing to write
+abbrev pub is_follower_settled : ℕ → Follower → Bool
+is_follower_settled count s = elim s.work as (λ _. Bool) [
+  | restoring r ↦ false
+  | replicating t ↦ is_empty t.buffer && is_empty t.writes && (not (is_active t.phase) || list_all (is_whole count) (all_copies s.copies))
+]
+
+-- the history is what the leader's primary has processed
+abbrev pub is_settled : State → Bool
+is_settled s =
+    let count = s.leader.copies.primary.seen.count in
+    is_none (not_ready s.leader.copies)
+    && list_all (is_whole count) (all_copies s.leader.copies)
+    && is_empty s.flight
+    && list_all (is_follower_settled count) s.followers
