@@ -1,0 +1,16 @@
+pub mod One
+pub mod Several
+pub mod After
+pub mod Rows
+pub mod Writes
+pub mod Quiet
+pub mod Join
+pub mod Deliver
+pub mod Says
+pub mod Events
+pub mod Files
+pub mod Asks
+pub mod Restoring
+pub mod FetchRows
+pub mod FetchEvents
+pub mod Group

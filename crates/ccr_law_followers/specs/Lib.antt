@@ -1,0 +1,3 @@
+pub mod CopyLaws
+pub mod Fetches
+pub mod TrueCopies

@@ -1,0 +1,117 @@
+-- The sessions after an event: those that were open stay as they were opened, and at most one is opened.
+use Rattle.std.specs.Prelude.{filter, nat_le, ◌==◌, ◌⊎◌}
+use Rattle.std.specs.List.{AllByRecursion}
+use Rattle.std.proofs.Common.{◌≡◌, ℕ, ◌+◌, ◌<◌, ◌≤◌, Bool, true, false, if◌then◌else◌, Some, List, [], ◌∷◌, ◌++◌, refl, sym, ◌∙◌, ap, subst, arith, inl, inr}
+use Rattle.std.proofs.lemmas.Bool.Decides.{nat_tests}
+use Rattle.ccr_model.specs.Leaders.{Start, Leader, Session, session_of}
+use Rattle.ccr_model.specs.LeaderFrames.{new_session}
+use Rattle.ccr_model.specs.Past.{Line, opened_after}
+use Rattle.ccr_law_stores.specs.TrueStores.{IsTrueSession}
+use Rattle.ccr_law_frames.specs.TrueFrames.{IsOpen, AreSessions}
+use Rattle.ccr_law_frames.proofs.Finds.{find-front, find-back, find-takes}
+use Rattle.ccr_law_frames.proofs.Growing.{KeepsFront, front-holds}
+use Rattle.ccr_law_base.proofs.Lists.{All-weaker, All-append, All-push}
+
+-- those that are open were open before
+pub record StaysOpen (l : Leader) (next : ℕ) (sessions : List Session) : Type 0 where
+  pub same_next : next ≡ l.next_session
+  pub keeps : (opened : List Session) → AllByRecursion (IsOpen opened l.next_session) l.sessions → AllByRecursion (IsOpen opened l.next_session) sessions
+
+-- one more is open
+pub record OpensOne (l : Leader) (next : ℕ) (sessions : List Session) : Type 0 where
+  pub new_next : next ≡ l.next_session + 1
+  pub new : sessions ≡ l.sessions ++ new_session l ∷ []
+
+pub record SessionsGo (l : Leader) (start : Start) (next : ℕ) (sessions : List Session) : Type 0 where
+  pub same_start : start ≡ l.start
+  pub go : StaysOpen l next sessions ⊎ OpensOne l next sessions
+
+abbrev pub SessionsGoTo : Leader → Leader → Type 0
+SessionsGoTo l next = SessionsGo l next.start next.next_session next.sessions
+
+pub stay-open : (l : Leader) → SessionsGo l l.start l.next_session l.sessions
+stay-open l = record { same_start = refl; go = inl (record { same_next = refl; keeps = λ opened all. all }) }
+
+-- ---- lists
+
+filter-none : {X : Type 0} (test : X → Bool) (xs : List X) → AllByRecursion (λ x. test x ≡ false) xs → filter test xs ≡ []
+filter-none test [] all = refl
+filter-none test (x ∷ xs) all = ap (λ (b : Bool). if b then x ∷ filter test xs else filter test xs) all.0 ∙ filter-none test xs all.1
+
+filter-last : {X : Type 0} (test : X → Bool) (xs : List X) (x : X) → AllByRecursion (λ x. test x ≡ false) xs → test x ≡ true → filter test (xs ++ x ∷ []) ≡ x ∷ []
+filter-last test [] x all is = ap (λ (b : Bool). if b then x ∷ [] else []) is
+filter-last test (y ∷ xs) x all is = ap (λ (b : Bool). if b then y ∷ filter test (xs ++ x ∷ []) else filter test (xs ++ x ∷ [])) all.0 ∙ filter-last test xs x all.1 is
+
+-- ---- what was opened
+
+open-old : (opened : List Session) (next : ℕ) (sessions : List Session) → AllByRecursion (IsOpen opened next) sessions → AllByRecursion (λ (s : Session). nat_le next s.number ≡ false) sessions
+open-old opened next sessions all = All-weaker (IsOpen opened next) (λ (s : Session). nat_le next s.number ≡ false) (λ s is. let low : s.number < next = is.old in grind (arith, nat_tests)) sessions all
+
+stays-opened : (opened : List Session) (next : ℕ) (sessions : List Session) → AllByRecursion (IsOpen opened next) sessions → opened_after opened next sessions ≡ opened ++ []
+stays-opened opened next sessions all = ap (λ (more : List Session). opened ++ more) (filter-none (λ (s : Session). nat_le next s.number) sessions (open-old opened next sessions all))
+
+one-opened : (opened : List Session) (l : Leader) → AllByRecursion (IsOpen opened l.next_session) l.sessions
+    → opened_after opened l.next_session (l.sessions ++ new_session l ∷ []) ≡ opened ++ new_session l ∷ []
+one-opened opened l all =
+    ap (λ (more : List Session). opened ++ more) (filter-last (λ (s : Session). nat_le l.next_session s.number) l.sessions (new_session l) (open-old opened l.next_session l.sessions all) (grind (arith, nat_tests)))
+
+same-number : (n : ℕ) → (n == n) ≡ true
+same-number n = grind (arith, nat_tests)
+
+new-found : (opened : List Session) (l : Leader) → AllByRecursion (λ (s : Session). s.number < l.next_session) opened → session_of (opened ++ new_session l ∷ []) l.next_session ≡ Some (new_session l)
+new-found opened l old =
+    find-back (λ (s : Session). s.number == l.next_session) opened (new_session l ∷ [])
+    (All-weaker (λ (s : Session). s.number < l.next_session) (λ (s : Session). (s.number == l.next_session) ≡ false) (λ s low. grind (arith, nat_tests)) opened old)
+    ∙ find-takes (λ (s : Session). s.number == l.next_session) (new_session l) [] (same-number l.next_session)
+
+-- where a session is opened it is found under its number
+pub opening-found : (line : Line) (opened : List Session) (l : Leader) (next : ℕ) (sessions : List Session) → AreSessions line opened l.next_session l.sessions → OpensOne l next sessions
+    → session_of (opened_after opened l.next_session sessions) l.next_session ≡ Some (new_session l)
+opening-found line opened l next sessions are one =
+    subst (λ (now : List Session). session_of (opened_after opened l.next_session now) l.next_session ≡ Some (new_session l)) (sym one.new)
+    (subst (λ (all : List Session). session_of all l.next_session ≡ Some (new_session l)) (sym (one-opened opened l are.still)) (new-found opened l are.old))
+
+pub open-later : (opened more : List Session) (old next : ℕ) (s : Session) → old ≤ next → IsOpen opened old s → IsOpen (opened ++ more) next s
+open-later opened more old next s less is = record {
+  old = let low : s.number < old = is.old in omega arith;
+  first = is.first;
+  found = find-front (λ (x : Session). x.number == s.number) opened more is.first is.found;
+  same_count = is.same_count;
+  same_files = is.same_files;
+}
+
+stay-true : (line after : Line) (opened : List Session) (l : Leader) (sessions : List Session) → KeepsFront line after → AreSessions line opened l.next_session l.sessions
+    → AllByRecursion (IsOpen opened l.next_session) sessions → AreSessions after (opened ++ []) l.next_session sessions
+stay-true line after opened l sessions front are still = record {
+  hold = All-append (IsTrueSession after) opened [] (All-weaker (IsTrueSession line) (IsTrueSession after) (λ s holds. front-holds line after s front holds) opened are.hold) tt;
+  old = All-append (λ (s : Session). s.number < l.next_session) opened [] are.old tt;
+  still = All-weaker (IsOpen opened l.next_session) (IsOpen (opened ++ []) l.next_session) (λ s is. open-later opened [] l.next_session l.next_session s (omega arith) is) sessions still;
+}
+
+open-true : (line after : Line) (opened : List Session) (l : Leader) → KeepsFront line after → IsTrueSession line (new_session l) → AreSessions line opened l.next_session l.sessions
+    → AreSessions after (opened ++ new_session l ∷ []) (l.next_session + 1) (l.sessions ++ new_session l ∷ [])
+open-true line after opened l front files are = record {
+  hold = All-push (IsTrueSession after) opened (new_session l)
+      (All-weaker (IsTrueSession line) (IsTrueSession after) (λ s holds. front-holds line after s front holds) opened are.hold) (front-holds line after (new_session l) front files);
+  old = All-push (λ (s : Session). s.number < l.next_session + 1) opened (new_session l)
+      (All-weaker (λ (s : Session). s.number < l.next_session) (λ (s : Session). s.number < l.next_session + 1) (λ s low. omega arith) opened are.old) (omega arith);
+  still = All-push (IsOpen (opened ++ new_session l ∷ []) (l.next_session + 1)) l.sessions (new_session l)
+      (All-weaker (IsOpen opened l.next_session) (IsOpen (opened ++ new_session l ∷ []) (l.next_session + 1))
+      (λ s is. open-later opened (new_session l ∷ []) l.next_session (l.next_session + 1) s (omega arith) is) l.sessions are.still)
+      (record { old = omega arith; first = new_session l; found = new-found opened l are.old; same_count = refl; same_files = refl });
+}
+
+-- the sessions after an event are as they were opened
+pub sessions-true : (line after : Line) (opened : List Session) (l : Leader) (start : Start) (next : ℕ) (sessions : List Session) → KeepsFront line after → IsTrueSession line (new_session l)
+    → AreSessions line opened l.next_session l.sessions → SessionsGo l start next sessions → AreSessions after (opened_after opened l.next_session sessions) next sessions
+sessions-true line after opened l start next sessions front files are goes = by_case goes.go
+  where
+    by_case : StaysOpen l next sessions ⊎ OpensOne l next sessions → AreSessions after (opened_after opened l.next_session sessions) next sessions
+    by_case (inl stays) =
+        let still : AllByRecursion (IsOpen opened l.next_session) sessions = stays.keeps opened are.still in
+        subst (λ (n : ℕ). AreSessions after (opened_after opened l.next_session sessions) n sessions) (sym stays.same_next)
+        (subst (λ (all : List Session). AreSessions after all l.next_session sessions) (sym (stays-opened opened l.next_session sessions still)) (stay-true line after opened l sessions front are still))
+    by_case (inr one) =
+        subst (λ (n : ℕ). AreSessions after (opened_after opened l.next_session sessions) n sessions) (sym one.new_next)
+        (subst (λ (now : List Session). AreSessions after (opened_after opened l.next_session now) (l.next_session + 1) now) (sym one.new)
+        (subst (λ (all : List Session). AreSessions after all (l.next_session + 1) (l.sessions ++ new_session l ∷ [])) (sym (one-opened opened l are.still)) (open-true line after opened l front files are)))

@@ -1,0 +1,5 @@
+pub mod Asking
+pub mod Saying
+pub mod Serving
+pub mod TrueFrames
+pub mod FrameLaws

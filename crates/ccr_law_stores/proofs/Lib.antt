@@ -1,0 +1,16 @@
+pub mod Counting
+pub mod Holding
+pub mod Keeping
+pub mod Joining
+pub mod Merging
+pub mod Views
+pub mod Runs
+pub mod Histories
+pub mod Changes
+pub mod Sorting
+pub mod Sound
+pub mod Sessions
+pub mod Rows
+pub mod Reading
+pub mod Events
+pub mod LeaderFacts
