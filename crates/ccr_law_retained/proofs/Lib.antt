@@ -1,0 +1,17 @@
+pub mod Lists
+pub mod Reading
+pub mod Fetching
+pub mod Moves
+pub mod Growing
+pub mod Own
+pub mod Saying
+pub mod Worlds
+pub mod Places
+pub mod LeaderEvents
+pub mod Deliveries
+pub mod Taking
+pub mod Joining
+pub mod Events
+pub mod Stating
+pub mod Stopping
+pub mod Floors

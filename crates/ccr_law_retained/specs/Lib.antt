@@ -1,0 +1,4 @@
+pub mod Grounds
+pub mod Retaining
+pub mod Moving
+pub mod RetainedLaws
