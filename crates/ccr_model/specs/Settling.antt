@@ -12,7 +12,7 @@ use Rattle.ccr_journal.specs.declared.sides.Side.TheVariants as sides
 use Rattle.ccr_journal.specs.declared.sides.Phase.{Phase}
 use Rattle.ccr_journal.specs.declared.events.Event.{Event}
 use Rattle.ccr_journal.specs.declared.events.Event.TheVariants as events
-use Rattle.ccr_model.specs.Copies.{Copy, Replica, Copies, replica_of, copy_of, has_lease}
+use Rattle.ccr_model.specs.Copies.{Copy, Replica, Copies, replica_of, copy_of, not_ready, has_lease}
 use Rattle.ccr_model.specs.Requests.{Progress, on_its_way, waiting, held_back, is_due}
 use Rattle.ccr_model.specs.Tasks.{Read, Write, may_read, sent_reads}
 use Rattle.ccr_model.specs.Restores.{Stage, leasing, opening, fetching, ChunkAsked, sent_requests}
@@ -137,14 +137,16 @@ waits_until work = least_of (filter_map time_of (waits_in work))
 abbrev pub for_named : State → ℕ → (Follower → Bool) → Bool
 for_named s f may = option_map_or may (slice_get s.followers f) false
 
--- the event brings the world nearer to where nothing is left to be done; clocks apart
+-- the event brings the world nearer to where nothing is left to be done; clocks apart. A message waits for a leader that is ready, which
+-- settling makes it first: an unready one answers a request so that it comes again, and again.
 abbrev pub may_act : State → Event → Bool
 may_act s (events.Replicate side copy seq) = for_replica (may_replicate seq) copy (copies_at s side)
 may_act s (events.Ack side copy) = for_replica may_ack copy (copies_at s side)
 may_act s (events.Sync side copy) = for_replica may_sync copy (copies_at s side)
 may_act s (events.Resync copy) = for_replica may_resync copy (Some s.leader.copies)
-may_act s (events.Deliver at copy keep) = is_some (slice_get s.flight at) && (copy == s.leader.copies.primary.number) && not keep
-may_act s (events.Wake f at) = may_wake s f at
+may_act s (events.Deliver at copy keep) =
+    is_some (slice_get s.flight at) && (copy == s.leader.copies.primary.number) && not keep && is_none (not_ready s.leader.copies)
+may_act s (events.Wake f at) = for_named s f (λ own. may_wake s f at)
 may_act s (events.Lose f at) = may_lose s f at
 may_act s (events.Apply f epoch write batch) = for_named s f (λ own. may_apply own epoch batch (sent_write own.work write))
 may_act s (events.Written f write) = for_named s f (λ own. may_end own (sent_write own.work write))

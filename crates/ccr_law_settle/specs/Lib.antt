@@ -1,0 +1,4 @@
+pub mod Measure
+pub mod Within
+pub mod Lowering
+pub mod Left

@@ -1,0 +1,60 @@
+-- What is proved of settling: the events that lower the measure.
+use Rattle.std.specs.Prelude.{◌≡◌, ℕ, Bool, true, List, Some, None, is_some, slice_get}
+use Rattle.ccr_op.specs.Operation.{Operation}
+use Rattle.ccr_wire.specs.declared.content.Content.{Content}
+use Rattle.ccr_wire.specs.declared.content.Content.TheVariants as contents
+use Rattle.ccr_journal.specs.declared.sides.Side.{Side}
+use Rattle.ccr_journal.specs.declared.sides.Side.TheVariants as sides
+use Rattle.ccr_journal.specs.declared.events.Event.{Event}
+use Rattle.ccr_journal.specs.declared.events.Event.TheVariants as events
+use Rattle.ccr_model.specs.Copies.{not_ready}
+use Rattle.ccr_model.specs.Leaders.{session_of}
+use Rattle.ccr_model.specs.Followers.{Follower}
+use Rattle.ccr_model.specs.World.{State}
+use Rattle.ccr_model.specs.Step.{step}
+use Rattle.ccr_model.specs.Settling.{MaySettle}
+use Rattle.ccr_law_settle.specs.Measure.{IsLower}
+use Rattle.ccr_law_settle.specs.Within.{AreRequestsApart, KnowsWithin}
+
+-- where the event may be used to settle, the measure is lower after it
+abbrev pub Lowers : State → Event → Type 0
+Lowers s event = MaySettle s event → (picks : List ℕ) → IsLower (step s event picks).next s
+
+-- the events about copies, and an apply
+pub record CopyingLowers (s : State) : Type 0 where
+  pub replicate : (side : Side) (copy seq : ℕ) → Lowers s (events.Replicate side copy seq)
+  pub ack : (side : Side) (copy : ℕ) → Lowers s (events.Ack side copy)
+  pub sync : (side : Side) (copy : ℕ) → Lowers s (events.Sync side copy)
+  pub resync : (copy : ℕ) → Lowers s (events.Resync copy)
+  pub apply : (f epoch write : ℕ) (batch : List Operation) → Lowers s (events.Apply f epoch write batch)
+
+-- a wake, a loss of a request whose number no other has, and a follower's clock
+pub record WaitingLowers (s : State) : Type 0 where
+  pub wake : (f at : ℕ) → Lowers s (events.Wake f at)
+  pub lose : (f at : ℕ) → ((own : Follower) → slice_get s.followers f ≡ Some own → AreRequestsApart own.work) → Lowers s (events.Lose f at)
+  pub clock : (f now : ℕ) → Lowers s (events.Clock (sides.Follower f) now)
+
+-- the end of a write, where the task knows of no more than the history has
+pub record EndingLowers (s : State) : Type 0 where
+  pub written : (f write : ℕ) → ((own : Follower) → slice_get s.followers f ≡ Some own → KnowsWithin s.leader.copies.primary.seen.count own.work)
+      → Lowers s (events.Written f write)
+
+-- a message is in flight at this place
+abbrev pub IsInFlight : State → ℕ → List ℕ → ℕ → Content → Type 0
+IsInFlight s at follower request content = slice_get s.flight at ≡ Some (record { follower = follower; request = request; content = content })
+
+-- the delivery to the leader: of a read; of the renewal and the removal of a lease; of the request for a session, where the leader is
+-- ready; and of that for a part of a file of a session that is open. And that to a follower: of the word that the leader isn't ready.
+pub record DeliveryLowers (s : State) : Type 0 where
+  pub read : (at copy : ℕ) (keep : Bool) (follower : List ℕ) (request : ℕ) (history : List ℕ) (from max_ops max_bytes timeout : ℕ)
+      → IsInFlight s at follower request (contents.ReadRequest history from max_ops max_bytes timeout) → Lowers s (events.Deliver at copy keep)
+  pub removal : (at copy : ℕ) (keep : Bool) (follower : List ℕ) (request : ℕ) (id : List ℕ)
+      → IsInFlight s at follower request (contents.LeaseRemove id) → Lowers s (events.Deliver at copy keep)
+  pub renewal : (at copy : ℕ) (keep : Bool) (follower : List ℕ) (request : ℕ) (id : List ℕ) (number : ℕ)
+      → IsInFlight s at follower request (contents.LeaseRenew id number) → Lowers s (events.Deliver at copy keep)
+  pub session : (at copy : ℕ) (keep : Bool) (follower : List ℕ) (request : ℕ) → not_ready s.leader.copies ≡ None
+      → IsInFlight s at follower request contents.SessionOpen → Lowers s (events.Deliver at copy keep)
+  pub chunk : (at copy : ℕ) (keep : Bool) (follower : List ℕ) (request session file offset size : ℕ) → is_some (session_of s.leader.sessions session) ≡ true
+      → IsInFlight s at follower request (contents.ChunkRequest session file offset size) → Lowers s (events.Deliver at copy keep)
+  pub refusal : (at copy : ℕ) (keep : Bool) (follower : List ℕ) (request unready : ℕ)
+      → IsInFlight s at follower request (contents.NotReady unready) → Lowers s (events.Deliver at copy keep)
