@@ -39,7 +39,7 @@ use Rattle.ccr_law_settle.proofs.Delivering.{taken, primary_found}
 abbrev pub StaysOpen : List Session → List Session → Type 0
 StaysOpen old new = (n : ℕ) → is_none (session_of new n) ≡ true → is_none (session_of old n) ≡ true
 
-any_step : {X : Type 0} (new old : X → Bool) (xs : List X) → ((x : X) → new x ≡ true → old x ≡ true) → list_any new xs ≡ true → list_any old xs ≡ true
+pub any_step : {X : Type 0} (new old : X → Bool) (xs : List X) → ((x : X) → new x ≡ true → old x ≡ true) → list_any new xs ≡ true → list_any old xs ≡ true
 any_step new old [] step any = cc
 any_step new old (x ∷ xs) step any = either (new x) (old x) (list_any new xs) (list_any old xs) (step x) (any_step new old xs step) any
   where
@@ -85,6 +85,10 @@ abbrev pub changed_leader : Leader → Collection → ℕ → List Session → L
 changed_leader l leases next sessions =
     record l { copies = record l.copies { primary = record l.copies.primary { leases = leases } }; next_session = next; sessions = sessions }
 
+-- the leader's copies, where the primary has these leases
+abbrev pub with_these : State → Collection → Copies
+with_these s leases = record s.leader.copies { primary = record s.leader.copies.primary { leases = leases } }
+
 pub record IsAnswered (s : State) (m : Frame) (leases : Collection) (sessions : List Session) (content : Content) : Type 0 where
   pub open_still : StaysOpen s.leader.sessions sessions
   pub held_still : (id : List ℕ) → has_lease id s.leader.copies.primary ≡ true → has_lease id (record s.leader.copies.primary { leases = leases }) ≡ true
@@ -94,18 +98,21 @@ pub record IsAnswered (s : State) (m : Frame) (leases : Collection) (sessions : 
   pub light : weight_of_frame (record { follower = m.follower; request = m.request; content = content }) ≡ 1
   pub heavy : weight_of_frame m ≡ 3
 
-answered_lower : (s : State) (at : ℕ) (m : Frame) (leases : Collection) (next : ℕ) (sessions : List Session) (what : Hearing) (content : Content) → slice_get s.flight at ≡ Some m
-    → IsAnswered s m leases sessions content
+-- the same, where the ranks are known to be no greater
+pub record IsTold (s : State) (at : ℕ) (m : Frame) (leases : Collection) (sessions : List Session) (content : Content) : Type 0 where
+  pub ranks : over_followers (λ f own. rank_of (remove s.flight at ++ (answer_to m.follower m.request content ++ answers_of (with_these s leases) s.leader.kept)) sessions f own.work) 0 s.followers
+      ≤ over_followers (λ f own. rank_of s.flight s.leader.sessions f own.work) 0 s.followers
+  pub held_still : (id : List ℕ) → has_lease id s.leader.copies.primary ≡ true → has_lease id (with_these s leases).primary ≡ true
+  pub busy : is_idle_content content ≡ false
+  pub light : weight_of_frame (record { follower = m.follower; request = m.request; content = content }) ≡ 1
+  pub heavy : weight_of_frame m ≡ 3
+
+pub told_lower : (s : State) (at : ℕ) (m : Frame) (leases : Collection) (next : ℕ) (sessions : List Session) (what : Hearing) (content : Content) → slice_get s.flight at ≡ Some m
+    → IsTold s at m leases sessions content
     → IsLower (taken s at (hears what (changed_leader s.leader leases next sessions) (answer_to m.follower m.request content))).next s
-answered_lower s at m leases next sessions what content found is =
+told_lower s at m leases next sessions what content found is =
     inr (
-      (let more : over_followers (λ f own. rank_of (rest ++ all) sessions f own.work) 0 s.followers ≤ over_followers (λ f own. rank_of rest sessions f own.work) 0 s.followers
-          = ranks_more rest all sessions s.followers (All-append (IsPlain sessions) sent told (record { opens = is.opens; gone = is.gone }, tt) (plain_answers sessions copies s.leader.kept)) in
-          let opened : over_followers (λ f own. rank_of rest sessions f own.work) 0 s.followers ≤ over_followers (λ f own. rank_of rest s.leader.sessions f own.work) 0 s.followers
-          = ranks_opened rest s.leader.sessions sessions s.followers is.open_still in
-          let left : over_followers (λ f own. rank_of rest s.leader.sessions f own.work) 0 s.followers ≤ over_followers (λ f own. rank_of s.flight s.leader.sessions f own.work) 0 s.followers
-          = ranks_left s.flight at s.leader.sessions s.followers in
-          omega arith),
+      is.ranks,
       inr (
         le_itself (lacking_of s),
         inr (
@@ -123,7 +130,7 @@ answered_lower s at m leases next sessions what content found is =
     no_more a b c one followers same sum = omega arith
 
     copies : Copies
-    copies = record s.leader.copies { primary = record s.leader.copies.primary { leases = leases } }
+    copies = with_these s leases
 
     sent : List Frame
     sent = answer_to m.follower m.request content
@@ -181,8 +188,36 @@ answered_lower s at m leases next sessions what content found is =
         = works_fewer (may_be_answered after) (may_be_answered s) s.followers still in
         omega arith
 
+pub answered_lower : (s : State) (at : ℕ) (m : Frame) (leases : Collection) (next : ℕ) (sessions : List Session) (what : Hearing) (content : Content) → slice_get s.flight at ≡ Some m
+    → IsAnswered s m leases sessions content
+    → IsLower (taken s at (hears what (changed_leader s.leader leases next sessions) (answer_to m.follower m.request content))).next s
+answered_lower s at m leases next sessions what content found is =
+    told_lower s at m leases next sessions what content found (record {
+      ranks =
+          (let more : over_followers (λ f own. rank_of (rest ++ (sent ++ told)) sessions f own.work) 0 s.followers ≤ over_followers (λ f own. rank_of rest sessions f own.work) 0 s.followers
+          = ranks_more rest (sent ++ told) sessions s.followers (All-append (IsPlain sessions) sent told (record { opens = is.opens; gone = is.gone }, tt) (plain_answers sessions (with_these s leases) s.leader.kept)) in
+          let opened : over_followers (λ f own. rank_of rest sessions f own.work) 0 s.followers ≤ over_followers (λ f own. rank_of rest s.leader.sessions f own.work) 0 s.followers
+          = ranks_opened rest s.leader.sessions sessions s.followers is.open_still in
+          let left : over_followers (λ f own. rank_of rest s.leader.sessions f own.work) 0 s.followers ≤ over_followers (λ f own. rank_of s.flight s.leader.sessions f own.work) 0 s.followers
+          = ranks_left s.flight at s.leader.sessions s.followers in
+          omega arith);
+      held_still = is.held_still;
+      busy = is.busy;
+      light = is.light;
+      heavy = is.heavy;
+    })
+  where
+    sent : List Frame
+    sent = answer_to m.follower m.request content
+
+    told : List Frame
+    told = answers_of (with_these s leases) s.leader.kept
+
+    rest : List Frame
+    rest = remove s.flight at
+
 -- a message that goes to the leader is delivered to the primary
-delivered_by : (s : State) (at copy : ℕ) (picks : List ℕ) (m : Frame) → slice_get s.flight at ≡ Some m → (copy == s.leader.copies.primary.number) ≡ true → goes_to_leader (kind_of_content m.content) ≡ true
+pub delivered_by : (s : State) (at copy : ℕ) (picks : List ℕ) (m : Frame) → slice_get s.flight at ≡ Some m → (copy == s.leader.copies.primary.number) ≡ true → goes_to_leader (kind_of_content m.content) ≡ true
     → IsLower (taken s at (receive_row s.leader copy m)).next s → IsLower (step s (events.Deliver at copy false) picks).next s
 unfolding deliver_row
 delivered_by s at copy picks m found own goes lower =
@@ -190,10 +225,10 @@ delivered_by s at copy picks m found own goes lower =
     (subst (λ (o : Option Copy). IsLower (deliver_row s at copy false (Some m) o).next s) (sym (primary_found s.leader.copies copy own))
     (subst (λ (b : Bool). IsLower (if b then taken s at (receive_row s.leader copy m) else at_named_follower (record s { flight = remove s.flight at }) m (follower_of s.followers m.follower)).next s) (sym goes) lower))
 
-same_leases : (s : State) (id : List ℕ) → has_lease id s.leader.copies.primary ≡ true → has_lease id (record s.leader.copies.primary { leases = s.leader.copies.primary.leases }) ≡ true
+pub same_leases : (s : State) (id : List ℕ) → has_lease id s.leader.copies.primary ≡ true → has_lease id (record s.leader.copies.primary { leases = s.leader.copies.primary.leases }) ≡ true
 same_leases s id is = is
 
-same_open : (sessions : List Session) → StaysOpen sessions sessions
+pub same_open : (sessions : List Session) → StaysOpen sessions sessions
 same_open sessions n is = is
 
 -- ---- renewals

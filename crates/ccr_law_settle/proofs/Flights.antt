@@ -27,11 +27,11 @@ pub record IsPlain (sessions : List Session) (m : Frame) : Type 0 where
   pub opens : opens_closed sessions m.content ≡ false
   pub gone : is_gone m.content ≡ false
 
-none_opens : (sessions : List Session) (f : ℕ) (a : Asked) (more : List Frame) → AllByRecursion (IsPlain sessions) more → is_opened_in_vain more sessions f a ≡ false
+pub none_opens : (sessions : List Session) (f : ℕ) (a : Asked) (more : List Frame) → AllByRecursion (IsPlain sessions) more → is_opened_in_vain more sessions f a ≡ false
 none_opens sessions f a [] plain = refl
 none_opens sessions f a (m ∷ more) plain = rw plain.0.opens (rw (and_none (bytes_eq m.follower (uuid_of f) && answers m a)) (none_opens sessions f a more plain.1))
 
-none_gone : (sessions : List Session) (f : ℕ) (fetch : Fetch) (more : List Frame) → AllByRecursion (IsPlain sessions) more → is_told_gone more f fetch ≡ false
+pub none_gone : (sessions : List Session) (f : ℕ) (fetch : Fetch) (more : List Frame) → AllByRecursion (IsPlain sessions) more → is_told_gone more f fetch ≡ false
 none_gone sessions f fetch [] plain = refl
 none_gone sessions f fetch (m ∷ more) plain = rw plain.0.gone (rw (and_none (bytes_eq m.follower (uuid_of f))) (none_gone sessions f fetch more plain.1))
 
@@ -82,7 +82,7 @@ idle_more flight more busy =
 -- ---- what is under way
 
 -- where more requests may still be answered, less is under way
-weight_fewer : (a b : Bool) (now : ℕ) (p : Progress) → (b ≡ true → a ≡ true) → weight_of_progress a now p ≤ weight_of_progress b now p
+pub weight_fewer : (a b : Bool) (now : ℕ) (p : Progress) → (b ≡ true → a ≡ true) → weight_of_progress a now p ≤ weight_of_progress b now p
 weight_fewer true b now on_its_way step = omega arith
 weight_fewer false true now on_its_way step = let e : false ≡ true = step refl in cc
 weight_fewer false false now on_its_way step = omega arith

@@ -17,6 +17,14 @@ pub mod Taken
 pub mod Delivering
 pub mod Removals
 pub mod Answering
+pub mod Gone
+pub mod Adding
+pub mod Due
+pub mod Repeating
+pub mod Ticking
 pub mod Refusals
 pub mod Left
 pub mod Saying
+pub mod Stale
+pub mod Steps
+pub mod Framing

@@ -24,7 +24,7 @@ use Rattle.ccr_law_settle.proofs.Taken.{total_remove, ranks_left}
 use Rattle.ccr_law_settle.proofs.Delivering.{primary_found}
 
 -- one message fewer that brings nothing
-idle_less : (flight : List Frame) (at : ℕ) (m : Frame) → slice_get flight at ≡ Some m → is_idle_content m.content ≡ true
+pub idle_less : (flight : List Frame) (at : ℕ) (m : Frame) → slice_get flight at ≡ Some m → is_idle_content m.content ≡ true
     → passing (λ (x : Frame). is_idle_content x.content) (remove flight at) < passing (λ (x : Frame). is_idle_content x.content) flight
 idle_less flight at m found idle =
     let one : passing (λ (x : Frame). is_idle_content x.content) (remove flight at) + (if is_idle_content m.content then 1 else 0) ≡ passing (λ (x : Frame). is_idle_content x.content) flight
@@ -83,7 +83,7 @@ takes_lower s at m f own o found idle there takes =
 
 -- ---- the message
 
-fewer_left : {X : Type 0} (test : X → Bool) (xs : List X) → length (filter test xs) ≤ length xs
+pub fewer_left : {X : Type 0} (test : X → Bool) (xs : List X) → length (filter test xs) ≤ length xs
 fewer_left test [] = omega arith
 fewer_left test (x ∷ xs) =
     let rest : length (filter test xs) ≤ length xs = fewer_left test xs in

@@ -30,6 +30,7 @@ use Rattle.ccr_law_settle.proofs.Ending.{written_at}
 use Rattle.ccr_law_settle.proofs.Delivering.{read_delivered}
 use Rattle.ccr_law_settle.proofs.Removals.{removal_delivered}
 use Rattle.ccr_law_settle.proofs.Refusals.{refusal_delivered}
+use Rattle.ccr_law_settle.proofs.Adding.{addition_delivered}
 use Rattle.ccr_law_settle.proofs.Answering.{renewal_delivered, session_delivered, chunk_delivered}
 use Rattle.ccr_model.specs.Settling.{may_act}
 use Rattle.ccr_law_settle.specs.Measure.{IsLower}
@@ -188,7 +189,7 @@ delivery_test true false keep ready is = cc
 delivery_test false b keep ready is = cc
 
 -- what lowers at the primary without keeping lowers where settling may use it
-delivered : (s : State) (at copy : ℕ) (keep : Bool) (picks : List ℕ) → ((copy == s.leader.copies.primary.number) ≡ true → IsLower (step s (events.Deliver at copy false) picks).next s)
+pub delivered : (s : State) (at copy : ℕ) (keep : Bool) (picks : List ℕ) → ((copy == s.leader.copies.primary.number) ≡ true → IsLower (step s (events.Deliver at copy false) picks).next s)
     → may_act s (events.Deliver at copy keep) ≡ true → IsLower (step s (events.Deliver at copy keep) picks).next s
 delivered s at copy keep picks lower may =
     let tests : ((copy == s.leader.copies.primary.number) ≡ true) × (keep ≡ false) = delivery_test (is_some (slice_get s.flight at)) (copy == s.leader.copies.primary.number) keep (is_none (not_ready s.leader.copies)) may in
@@ -200,6 +201,7 @@ delivery_lowers s readable = record {
       delivered s at copy keep picks (read_delivered s at copy picks follower request history from max_ops max_bytes timeout readable found) may;
   removal = λ at copy keep follower request id found may picks. delivered s at copy keep picks (removal_delivered s at copy picks follower request id found) may;
   renewal = λ at copy keep follower request id number found may picks. delivered s at copy keep picks (renewal_delivered s at copy picks follower request id number found) may;
+  addition = λ at copy keep follower request id ready found may picks. delivered s at copy keep picks (addition_delivered s at copy picks follower request id found ready) may;
   session = λ at copy keep follower request ready found may picks. delivered s at copy keep picks (session_delivered s at copy picks follower request found ready) may;
   chunk = λ at copy keep follower request session file offset size there found may picks.
       delivered s at copy keep picks (chunk_delivered s at copy picks follower request session file offset size found there) may;

@@ -1,6 +1,7 @@
 -- What is proved of settling: the events that lower the measure.
-use Rattle.std.specs.Prelude.{◌≡◌, ℕ, Bool, true, List, Some, None, is_some, slice_get}
+use Rattle.std.specs.Prelude.{◌≡◌, ℕ, Bool, true, false, List, Some, None, is_some, slice_get}
 use Rattle.ccr_op.specs.Operation.{Operation}
+use Rattle.ccr_wire.specs.Message.{Frame, kind_of_content}
 use Rattle.ccr_wire.specs.declared.content.Content.{Content}
 use Rattle.ccr_wire.specs.declared.content.Content.TheVariants as contents
 use Rattle.ccr_journal.specs.declared.sides.Side.{Side}
@@ -10,11 +11,12 @@ use Rattle.ccr_journal.specs.declared.events.Event.TheVariants as events
 use Rattle.ccr_model.specs.Copies.{not_ready}
 use Rattle.ccr_model.specs.Leaders.{session_of}
 use Rattle.ccr_model.specs.Followers.{Follower}
-use Rattle.ccr_model.specs.World.{State}
+use Rattle.ccr_model.specs.FollowerRows.{is_bootstrapping}
+use Rattle.ccr_model.specs.World.{State, goes_to_leader, follower_of}
 use Rattle.ccr_model.specs.Step.{step}
 use Rattle.ccr_model.specs.Settling.{MaySettle}
 use Rattle.ccr_law_settle.specs.Measure.{IsLower}
-use Rattle.ccr_law_settle.specs.Within.{AreRequestsApart, KnowsWithin}
+use Rattle.ccr_law_settle.specs.Within.{AreRequestsApart, KnowsWithin, IsAwaitedByNone, opens_next}
 
 -- where the event may be used to settle, the measure is lower after it
 abbrev pub Lowers : State → Event → Type 0
@@ -43,8 +45,8 @@ pub record EndingLowers (s : State) : Type 0 where
 abbrev pub IsInFlight : State → ℕ → List ℕ → ℕ → Content → Type 0
 IsInFlight s at follower request content = slice_get s.flight at ≡ Some (record { follower = follower; request = request; content = content })
 
--- the delivery to the leader: of a read; of the renewal and the removal of a lease; of the request for a session, where the leader is
--- ready; and of that for a part of a file of a session that is open. And that to a follower: of the word that the leader isn't ready.
+-- the delivery to the leader: of a read; of the renewal and the removal of a lease; of the request for a lease, and for a session, where
+-- the leader is ready; and of that for a part of a file of a session that is open. And that to a follower: of the word that the leader isn't ready.
 pub record DeliveryLowers (s : State) : Type 0 where
   pub read : (at copy : ℕ) (keep : Bool) (follower : List ℕ) (request : ℕ) (history : List ℕ) (from max_ops max_bytes timeout : ℕ)
       → IsInFlight s at follower request (contents.ReadRequest history from max_ops max_bytes timeout) → Lowers s (events.Deliver at copy keep)
@@ -52,9 +54,24 @@ pub record DeliveryLowers (s : State) : Type 0 where
       → IsInFlight s at follower request (contents.LeaseRemove id) → Lowers s (events.Deliver at copy keep)
   pub renewal : (at copy : ℕ) (keep : Bool) (follower : List ℕ) (request : ℕ) (id : List ℕ) (number : ℕ)
       → IsInFlight s at follower request (contents.LeaseRenew id number) → Lowers s (events.Deliver at copy keep)
+  pub addition : (at copy : ℕ) (keep : Bool) (follower : List ℕ) (request : ℕ) (id : List ℕ) → not_ready s.leader.copies ≡ None
+      → IsInFlight s at follower request (contents.LeaseAdd id) → Lowers s (events.Deliver at copy keep)
   pub session : (at copy : ℕ) (keep : Bool) (follower : List ℕ) (request : ℕ) → not_ready s.leader.copies ≡ None
       → IsInFlight s at follower request contents.SessionOpen → Lowers s (events.Deliver at copy keep)
   pub chunk : (at copy : ℕ) (keep : Bool) (follower : List ℕ) (request session file offset size : ℕ) → is_some (session_of s.leader.sessions session) ≡ true
       → IsInFlight s at follower request (contents.ChunkRequest session file offset size) → Lowers s (events.Deliver at copy keep)
   pub refusal : (at copy : ℕ) (keep : Bool) (follower : List ℕ) (request unready : ℕ)
       → IsInFlight s at follower request (contents.NotReady unready) → Lowers s (events.Deliver at copy keep)
+
+-- where the messages in flight agree with what the followers asked for: a loss of any request, the tick of a follower that bootstraps, and the
+-- delivery to the leader of any request for a part of a file, and to a follower of any message that it doesn't wait
+-- for, or that makes its bootstrap ask for a session
+pub record AskingLowers (s : State) : Type 0 where
+  pub lose : (f at : ℕ) → Lowers s (events.Lose f at)
+  pub tick : (f : ℕ) → ((own : Follower) → slice_get s.followers f ≡ Some own → is_bootstrapping own.work ≡ true) → Lowers s (events.Tick f)
+  pub part : (at copy : ℕ) (keep : Bool) (follower : List ℕ) (request session file offset size : ℕ)
+      → IsInFlight s at follower request (contents.ChunkRequest session file offset size) → Lowers s (events.Deliver at copy keep)
+  pub stale : (at copy : ℕ) (keep : Bool) (m : Frame) → slice_get s.flight at ≡ Some m → goes_to_leader (kind_of_content m.content) ≡ false
+      → IsAwaitedByNone s m.follower m.request → Lowers s (events.Deliver at copy keep)
+  pub opening : (at copy : ℕ) (keep : Bool) (m : Frame) (f : ℕ) (own : Follower) → slice_get s.flight at ≡ Some m → goes_to_leader (kind_of_content m.content) ≡ false
+      → follower_of s.followers m.follower ≡ Some f → slice_get s.followers f ≡ Some own → opens_next m own.work ≡ true → Lowers s (events.Deliver at copy keep)

@@ -1,15 +1,23 @@
 -- What the measure asks of the copies of a world: nothing is processed or known beyond the leader's history.
-use Rattle.std.specs.Prelude.{◌≡◌, ℕ, ◌<◌, ◌≤◌, ◌==◌, true, false, List, [], ◌∷◌, Some, slice_get}
-use Rattle.std.specs.List.{AllByRecursion}
+use Rattle.std.specs.Prelude.{◌≡◌, ℕ, ◌<◌, ◌≤◌, ◌==◌, ◌&&◌, Bool, true, false, List, [], ◌∷◌, Some, is_some, slice_get}
+use Rattle.std.specs.List.{AllByRecursion, list_any}
+use Rattle.std.specs.Str.{bytes_eq}
 use Rattle.ccr_op.specs.Operation.{Operation}
 use Rattle.ccr_tracker.specs.Numbers.{has}
 use Rattle.ccr_model.specs.Operations.{has_number}
 use Rattle.ccr_model.specs.Stores.{held}
 use Rattle.ccr_model.specs.Copies.{Copy, Replica, Copies, copy_of}
 use Rattle.ccr_model.specs.Tasks.{Read, Write}
-use Rattle.ccr_model.specs.Restores.{Stage, leasing, opening, fetching, ChunkAsked}
-use Rattle.ccr_model.specs.Followers.{Follower, Work, restoring, replicating}
+use Rattle.ccr_model.specs.Restores.{Restore, Stage, leasing, opening, fetching, Fetch, ChunkAsked, answers, ask_sent}
+use Rattle.ccr_model.specs.Requests.{is_sent}
+use Rattle.ccr_wire.specs.Message.{Frame}
+use Rattle.ccr_wire.specs.declared.kind.LeaseResult.TheVariants as results
+use Rattle.ccr_wire.specs.declared.content.Content.{Content}
+use Rattle.ccr_wire.specs.declared.content.Content.TheVariants as contents
+use Rattle.ccr_model.specs.FrameFacts.{next_request_of}
+use Rattle.ccr_model.specs.Followers.{Follower, Work, restoring, replicating, uuid_of}
 use Rattle.ccr_model.specs.World.{State}
+use Rattle.ccr_law_settle.specs.Measure.{is_gone}
 
 -- a replica that was resynced counts no further than the history, and the primary knows no more than that count
 pub record IsReplicaWithin (count : ℕ) (r : Replica) : Type 0 where
@@ -61,3 +69,58 @@ AreRequestsApart (replicating t) = AreReadsApart t.reads
 abbrev pub KnowsWithin : ℕ → Work → Type 0
 KnowsWithin count (restoring r) = Unit {0}
 KnowsWithin count (replicating t) = t.known ≤ count
+
+-- ---- fresh request numbers
+
+-- a bootstrap names the follower
+abbrev pub Asks : List ℕ → Work → Type 0
+Asks uuid (restoring r) = bytes_eq r.follower uuid ≡ true
+Asks uuid (replicating t) = bytes_eq t.follower uuid ≡ true
+
+-- what the follower sends carries its name, and no message with that name has a number that it is yet to draw
+pub record IsFresh (s : State) (f : ℕ) (own : Follower) : Type 0 where
+  pub named : Asks (uuid_of f) own.work
+  pub drawn : AllByRecursion (λ (m : Frame). bytes_eq m.follower (uuid_of f) ≡ true → m.request < next_request_of own.work) s.flight
+
+-- ---- requests for parts of files
+
+-- the message has the number of this request, which was sent
+abbrev pub has_number_of : ℕ → ChunkAsked → Bool
+has_number_of request a = (request == a.request) && is_sent a.progress
+
+-- a follower that still waits for what a request of this name and number asked for fetches this session
+abbrev pub AsksOfSession : State → List ℕ → ℕ → ℕ → Type 0
+AsksOfSession s uuid request session =
+    (f : ℕ) (own : Follower) (r : Restore) (fetch : Fetch) → slice_get s.followers f ≡ Some own → own.work ≡ restoring r → r.stage ≡ fetching fetch
+    → bytes_eq uuid (uuid_of f) ≡ true → list_any (has_number_of request) fetch.asks ≡ true → fetch.session ≡ session
+
+-- the follower waits for an answer to a request of this number
+abbrev pub stage_waits_for : ℕ → Stage → Bool
+stage_waits_for n (leasing a) = (n == a.request) && is_sent a.progress
+stage_waits_for n (opening a) = (n == a.request) && is_sent a.progress
+stage_waits_for n (fetching f) = list_any (λ (a : ChunkAsked). (a.request == n) && is_sent a.progress) f.asks
+
+abbrev pub waits_for : ℕ → Work → Bool
+waits_for n (restoring r) = stage_waits_for n r.stage
+waits_for n (replicating t) = list_any (λ (r : Read). (r.request == n) && is_sent r.progress) t.reads
+
+-- no follower of this name waits for an answer to a request of this number
+abbrev pub IsAwaitedByNone : State → List ℕ → ℕ → Type 0
+IsAwaitedByNone s uuid request = (f : ℕ) (own : Follower) → slice_get s.followers f ≡ Some own → bytes_eq uuid (uuid_of f) ≡ true → waits_for request own.work ≡ false
+
+-- ---- answers that bring a bootstrap on
+
+-- the lease is there
+abbrev pub is_added : Content → Bool
+is_added (contents.LeaseAdded number) = true
+is_added (contents.LeaseAnswer results.Exists number) = true
+is_added _ = false
+
+-- the bootstrap waits for the message, and asks for a session then: its lease is there, or the session that it fetched is gone
+abbrev pub opens_next : Frame → Work → Bool
+opens_next m (restoring r) = elim r.stage as (λ _. Bool) [
+  | leasing a ↦ answers m a && is_added m.content
+  | opening a ↦ false
+  | fetching f ↦ is_some (ask_sent f m.request) && is_gone m.content
+]
+opens_next m (replicating t) = false

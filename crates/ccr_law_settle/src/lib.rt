@@ -8,9 +8,10 @@ ghost use Rattle.ccr_model.specs.World.{State};
 ghost use Rattle.ccr_model.specs.Past.{Past};
 ghost use Rattle.ccr_model.specs.Invariants.{IsTrueLeader, IsTrueFollower};
 ghost use Rattle.ccr_law_core.specs.Cores.{IsCore};
+ghost use Rattle.ccr_law_frames.specs.TrueFrames.{HasTrueFrames};
 ghost use Rattle.ccr_law_settle.specs.Left.{NothingMayBeDone, IsLeaderSettled};
 ghost use Rattle.ccr_law_settle.specs.Measure.{Five, IsBelow};
-ghost use Rattle.ccr_law_settle.specs.Lowering.{CopyingLowers, WaitingLowers, EndingLowers, DeliveryLowers};
+ghost use Rattle.ccr_law_settle.specs.Lowering.{CopyingLowers, WaitingLowers, EndingLowers, DeliveryLowers, AskingLowers};
 
 /// Five numbers, compared from the first on, cannot become smaller without end.
 pub fn no_endless_descent()
@@ -36,11 +37,19 @@ pub fn ending_lowers_measure()
 {}
 
 /// At a place where the invariants hold, each delivery to the leader that settling may use makes the measure smaller:
-/// of a read, of a lease's renewal or removal, of a request for a session where the leader is ready, and of a request
-/// for a part of a file of a session that is open. So does the delivery to a follower of the word that the leader is
+/// of a read, of a lease's renewal or removal, of a request for a lease or a session where the leader is ready, and of a
+/// request for a part of a file of a session that is open. So does the delivery to a follower of the word that the leader is
 /// not ready.
 pub fn delivery_lowers_measure()
     ensures lower { (p : Past) → IsTrueLeader p → DeliveryLowers p.state }
+{}
+
+/// At a place where the messages in flight agree with what the followers asked for, each loss of a request, each tick
+/// of a follower that bootstraps, each delivery to the leader of a request for a part of a file, and each delivery to a
+/// follower of a message that it doesn't wait for, or that makes its bootstrap ask for a session, that settling may use
+/// makes the measure smaller.
+pub fn asking_lowers_measure()
+    ensures lower { (p : Past) → IsCore p → HasTrueFrames p → AskingLowers p.state }
 {}
 
 /// At a place where the leader's invariant holds and nothing may be done, the leader is ready, each of its copies has
