@@ -1,3 +1,4 @@
 pub mod Cases
 pub mod Journals
 pub mod Lists
+pub mod Tests

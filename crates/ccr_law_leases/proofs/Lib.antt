@@ -1,5 +1,6 @@
 pub mod Answers
 pub mod Collections
+pub mod Expiring
 pub mod Finding
 pub mod Keeping
 pub mod Messages

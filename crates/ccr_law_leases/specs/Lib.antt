@@ -1,2 +1,3 @@
+pub mod Expiries
 pub mod NoteOrder
 pub mod TrueLeases

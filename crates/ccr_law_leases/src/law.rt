@@ -8,6 +8,7 @@ ghost use Rattle.ccr_model.specs.World.{start_state};
 ghost use Rattle.ccr_model.specs.Step.{IsLegal};
 ghost use Rattle.ccr_model.specs.Past.{Past, start_past, past_of};
 ghost use Rattle.ccr_model.specs.Headline.{MergesSafely};
+ghost use Rattle.ccr_law_leases.specs.Expiries.{ExpiriesAreRight};
 ghost use Rattle.ccr_law_leases.specs.NoteOrder.{HasNotesInOrder, StaysUnbroken};
 ghost use Rattle.ccr_law_leases.specs.TrueLeases.{HasTrueLeases, RetainsInAll};
 
@@ -28,4 +29,10 @@ pub fn leader_merges()
 pub fn lease_history()
     ensures order { (start : Start) → IsCopyCount start.copies → (entries : List Entry) → IsLegal (start_state start) entries → HasNotesInOrder (past_of (start_past start) entries) }
     ensures unbroken { (start : Start) → IsCopyCount start.copies → (entries : List Entry) → IsLegal (start_state start) entries → StaysUnbroken (past_of (start_past start) entries) }
+{}
+
+/// An expiry drops each lease since whose last addition or renewal more than the period has passed, and no other: a
+/// lease whose period is just over is kept.
+pub fn leader_expiry()
+    ensures { ExpiriesAreRight }
 {}

@@ -17,6 +17,7 @@ use Rattle.ccr_model.specs.Settling.{may_replicate, may_ack, may_resync}
 use Rattle.ccr_law_base.proofs.Cases.{AreFalse}
 use Rattle.ccr_law_core.proofs.Sets.{has-marked, has-marked_all, has-kept}
 use Rattle.ccr_law_base.proofs.Lists.{any-range}
+use Rattle.ccr_law_base.proofs.Tests.{itself}
 use Rattle.ccr_law_settle.specs.Measure.{total, passing, copy_lacks, replica_lacks, copies_lack}
 use Rattle.ccr_law_settle.proofs.Totals.{passing_fewer, passing_less, total_replaced}
 
@@ -60,9 +61,6 @@ marked_lacks count seen seq below out =
     left : (a b : Bool) → (a || b) ≡ false → a ≡ false
     left true b is = cc
     left false b is = refl
-
-    itself : (n : ℕ) → (n == n) ≡ true
-    itself n = grind (arith, nat_tests)
 
 -- one replica lacks less, and the primary no more
 pub replaced_lacks : (count copy : ℕ) (s : Copies) (r new : Replica) (global : ℕ) → replica_of s copy ≡ Some r → s.primary.global ≤ global

@@ -3,7 +3,6 @@ use Rattle.std.specs.List.{AllByRecursion}
 use Rattle.std.specs.Prelude.{slice_get, slice_set}
 use Rattle.std.specs.Option.{option_map, option_map_or}
 use Rattle.std.proofs.Common.{◌≡◌, ℕ, ◌+◌, ◌<◌, ◌≤◌, ◌==◌, ◌&&◌, true, false, inr, inl, Option, Some, None, List, [], ◌∷◌, ◌++◌, length, is_none, refl, sym, subst, arith}
-use Rattle.std.proofs.lemmas.Bool.Decides.{nat_tests}
 use Rattle.ccr_wire.specs.Message.{Frame}
 use Rattle.ccr_journal.specs.declared.events.Event.TheVariants as events
 use Rattle.ccr_model.specs.Requests.{is_sent}
@@ -15,6 +14,7 @@ use Rattle.ccr_model.specs.Step.{step}
 use Rattle.ccr_model.specs.Settling.{may_act, may_end}
 use Rattle.ccr_law_base.proofs.Cases.{on_if}
 use Rattle.ccr_law_base.proofs.Lists.{All-weaker, All-find}
+use Rattle.ccr_law_base.proofs.Tests.{itself}
 use Rattle.ccr_law_settle.specs.Measure.{total, over_followers, rank_of, copies_lack, work_lacks, task_lacks, follower_lacks, IsLower}
 use Rattle.ccr_law_settle.specs.Within.{KnowsWithin}
 use Rattle.ccr_law_settle.proofs.Totals.{over_set_same, over_set_less}
@@ -35,9 +35,6 @@ each_ends (x ∷ writes) = (
       (λ is. omega arith) (λ isnt. omega arith))
       writes (each_ends writes),
 )
-  where
-    itself : (n : ℕ) → (n == n) ≡ true
-    itself n = grind (arith, nat_tests)
 
 -- a follower that lacks less, and sends plain messages
 pub sending_lower : (s : State) (f : ℕ) (own : Follower) (t new : Task) (sent : List Frame) → slice_get s.followers f ≡ Some own → own.work ≡ replicating t

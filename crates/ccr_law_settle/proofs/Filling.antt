@@ -23,10 +23,10 @@ pub record Fills (count : ℕ) (sessions : List Session) (t : Task) (done : Send
   pub known : done.next.known ≡ t.known
   pub sent : AllByRecursion (IsPlain sessions) done.sent
 
-fills_quietly : (count : ℕ) (sessions : List Session) (t : Task) → Fills count sessions t (quiet t)
+pub fills_quietly : (count : ℕ) (sessions : List Session) (t : Task) → Fills count sessions t (quiet t)
 fills_quietly count sessions t = record { lacks = le_itself (task_lacks count t); known = refl; sent = tt }
 
-fills_then : (count : ℕ) (sessions : List Session) (t : Task) (first : Sending Task) (f : Task → Sending Task) → Fills count sessions t first
+pub fills_then : (count : ℕ) (sessions : List Session) (t : Task) (first : Sending Task) (f : Task → Sending Task) → Fills count sessions t first
     → Fills count sessions first.next (f first.next) → Fills count sessions t (followed_by first f)
 fills_then count sessions t first f one two = record {
   lacks =
@@ -65,7 +65,7 @@ drop_length zero (op ∷ ops) = omega arith
 drop_length (suc n) [] = omega arith
 drop_length (suc n) (op ∷ ops) = let rest : length (drop n ops) ≡ length ops - n = drop_length n ops in omega arith
 
-abbrev write_amount : Write → ℕ
+abbrev pub write_amount : Write → ℕ
 write_amount w = 1 + length w.batch
 
 batch_lacks : (count : ℕ) (t : Task) → is_empty t.buffer ≡ false → task_lacks count (with_batch t) ≤ task_lacks count t
@@ -78,7 +78,7 @@ batch_lacks count t some =
     let writes : total write_amount (t.writes ++ w ∷ []) ≡ total write_amount t.writes + (1 + length batch + 0) = total_append write_amount t.writes (w ∷ []) in
     omega arith
 
-batches_lack : (n count : ℕ) (t : Task) → (task_lacks count (with_batches n t) ≤ task_lacks count t) × ((with_batches n t).known ≡ t.known)
+pub batches_lack : (n count : ℕ) (t : Task) → (task_lacks count (with_batches n t) ≤ task_lacks count t) × ((with_batches n t).known ≡ t.known)
 batches_lack zero count t = (le_itself (task_lacks count t), refl)
 batches_lack (suc n) count t =
     on_if (λ (x : Task). (task_lacks count x ≤ task_lacks count t) × (x.known ≡ t.known)) (is_empty t.buffer) t (with_batches n (with_batch t))
@@ -91,7 +91,7 @@ batches_lack (suc n) count t =
 
 -- ---- reads
 
-again_fills : (count : ℕ) (sessions : List Session) (t : Task) (r : Read) → Fills count sessions t (sent_again t r)
+pub again_fills : (count : ℕ) (sessions : List Session) (t : Task) (r : Read) → Fills count sessions t (sent_again t r)
 again_fills count sessions t r =
     let same : total (λ (x : Read). x.to - x.from) (changed_read r.request (λ own. record own { request = t.next_request; progress = on_its_way }) t.reads) ≡ total (λ (x : Read). x.to - x.from) t.reads
     = total_changed_read (λ (x : Read). x.to - x.from) r.request (λ own. record own { request = t.next_request; progress = on_its_way }) (λ x. refl) t.reads in
@@ -103,7 +103,7 @@ all_again_fills count sessions (r ∷ reads) t =
     fills_then count sessions t (sent_again t r) (all_sent_again reads) (again_fills count sessions t r) (all_again_fills count sessions reads (sent_again t r).next)
 
 -- a read up to a number of the history
-read_fills : (count : ℕ) (sessions : List Session) (t : Task) (to asked : ℕ) → t.next ≤ to → (to ≤ count) ⊎ (to ≡ t.next) → Fills count sessions t (with_read t t.next to asked)
+pub read_fills : (count : ℕ) (sessions : List Session) (t : Task) (to asked : ℕ) → t.next ≤ to → (to ≤ count) ⊎ (to ≡ t.next) → Fills count sessions t (with_read t t.next to asked)
 read_fills count sessions t to asked up within =
     let r : Read = record { request = t.next_request; from = t.next; to = to; asked = asked; progress = on_its_way } in
     let sums : total (λ (x : Read). x.to - x.from) (t.reads ++ r ∷ []) ≡ total (λ (x : Read). x.to - x.from) t.reads + (to - t.next + 0) = total_append (λ (x : Read). x.to - x.from) t.reads (r ∷ []) in

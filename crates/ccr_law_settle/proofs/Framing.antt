@@ -3,8 +3,7 @@ use Rattle.std.specs.List.{list_any}
 use Rattle.std.specs.Str.{bytes_eq}
 use Rattle.std.specs.Prelude.{slice_get, IfSome}
 use Rattle.std.specs.Option.{option_map}
-use Rattle.std.proofs.Common.{◌≡◌, ℕ, ◌<◌, ◌==◌, ◌&&◌, Bool, true, false, Option, Some, None, List, [], ◌∷◌, is_some, refl, sym, ◌∙◌, ap, subst, arith}
-use Rattle.std.proofs.lemmas.Bool.Decides.{nat_tests}
+use Rattle.std.proofs.Common.{◌≡◌, ℕ, ◌<◌, ◌==◌, ◌&&◌, Bool, true, false, Option, Some, None, List, [], ◌∷◌, is_some, refl, sym, ◌∙◌, ap, subst}
 use Rattle.std.proofs.lemmas.Slice.Eq.{bytes_eq-Decides}
 use Rattle.ccr_wire.specs.Message.{Frame}
 use Rattle.ccr_wire.specs.declared.content.Content.TheVariants as contents
@@ -16,6 +15,7 @@ use Rattle.ccr_model.specs.World.{follower_of}
 use Rattle.ccr_model.specs.FrameFacts.{Fetching, fetching_at, next_request_of}
 use Rattle.ccr_model.specs.Past.{Past}
 use Rattle.ccr_law_base.proofs.Lists.{All-weaker, All-at, some_equal}
+use Rattle.ccr_law_base.proofs.Tests.{same_turned}
 use Rattle.ccr_law_core.specs.Cores.{IsCore}
 use Rattle.ccr_law_leases.proofs.Finding.{found-any}
 use Rattle.ccr_law_frames.specs.Asking.{Part, part_of, part_in, ReadsApart, AsksApart}
@@ -43,7 +43,7 @@ asks_apart : (asks : List ChunkAsked) → AsksApart asks → AreAsksApart asks
 asks_apart [] apart = tt
 asks_apart (a ∷ asks) apart = (apart.0, asks_apart asks apart.1)
 
-requests_apart : (p : Past) (f : ℕ) (lease : List ℕ) (work : Work) → IsGoodWork (setting (scene_of p) f lease) work → AreRequestsApart work
+pub requests_apart : (p : Past) (f : ℕ) (lease : List ℕ) (work : Work) → IsGoodWork (setting (scene_of p) f lease) work → AreRequestsApart work
 requests_apart p f lease (replicating t) good = reads_apart t.reads good.reads.apart
 requests_apart p f lease (restoring r) good = by r.stage good.stage
   where
@@ -54,17 +54,17 @@ requests_apart p f lease (restoring r) good = by r.stage good.stage
 
 -- ---- names
 
-same_name : (a b : List ℕ) → a ≡ b → bytes_eq a b ≡ true
+pub same_name : (a b : List ℕ) → a ≡ b → bytes_eq a b ≡ true
 same_name a b e = (bytes_eq-Decides a b).1 e
 
 named_at : (p : Past) (f : ℕ) (lease : List ℕ) (work : Work) → IsGoodWork (setting (scene_of p) f lease) work → Asks (uuid_of f) work
 named_at p f lease (replicating t) good = same_name t.follower (uuid_of f) good.named
 named_at p f lease (restoring r) good = same_name r.follower (uuid_of f) good.named
 
-theirs : (p : Past) → IsCore p → HasTrueFrames p → AreTheirs p
+pub theirs : (p : Past) → IsCore p → HasTrueFrames p → AreTheirs p
 theirs p core frames = (frames-say p core frames).2
 
-fresh_at : (p : Past) → IsCore p → HasTrueFrames p → (f : ℕ) (own : Follower) → slice_get p.state.followers f ≡ Some own → IsFresh p.state f own
+pub fresh_at : (p : Past) → IsCore p → HasTrueFrames p → (f : ℕ) (own : Follower) → slice_get p.state.followers f ≡ Some own → IsFresh p.state f own
 fresh_at p core frames f own there = record {
   named = named_at p f own.lease own.work (frames.messages.works f own there).work;
   drawn = All-weaker (λ (m : Frame). bytes_eq m.follower (uuid_of f) ≡ true → IsMessageOf own m) (λ (m : Frame). bytes_eq m.follower (uuid_of f) ≡ true → m.request < next_request_of own.work)
@@ -73,14 +73,11 @@ fresh_at p core frames f own there = record {
 
 -- ---- requests for parts
 
-turned : (a b : ℕ) → (a == b) ≡ true → (b == a) ≡ true
-turned a b is = grind (arith, nat_tests)
-
 sent_found : (request : ℕ) (fetch : Fetch) → list_any (has_number_of request) fetch.asks ≡ true → is_some (ask_sent fetch request) ≡ true
 sent_found request fetch any =
     found-any (λ (a : ChunkAsked). (a.request == request) && is_sent a.progress) fetch.asks
     ∙ any_step (has_number_of request) (λ (a : ChunkAsked). (a.request == request) && is_sent a.progress) fetch.asks
-    (λ a. first (request == a.request) (a.request == request) (is_sent a.progress) (turned request a.request)) any
+    (λ a. first (request == a.request) (a.request == request) (is_sent a.progress) (same_turned request a.request)) any
   where
     first : (a b c : Bool) → (a ≡ true → b ≡ true) → (a && c) ≡ true → (b && c) ≡ true
     first true b c step is = let e : b ≡ true = step refl in rw e is
@@ -125,7 +122,7 @@ asks_of p core frames at follower request session file offset size found f own r
 
 -- ---- names of messages
 
-own_name : (p : Past) → IsCore p → HasTrueFrames p → (at : ℕ) (m : Frame) → slice_get p.state.flight at ≡ Some m → (f : ℕ) → follower_of p.state.followers m.follower ≡ Some f
+pub own_name : (p : Past) → IsCore p → HasTrueFrames p → (at : ℕ) (m : Frame) → slice_get p.state.flight at ≡ Some m → (f : ℕ) → follower_of p.state.followers m.follower ≡ Some f
     → bytes_eq m.follower (uuid_of f) ≡ true
 own_name p core frames at m found f is =
     let own : IsOwn p m = All-at (IsOwn p) p.state.flight at m (frames-say p core frames).1.flight found in

@@ -15,23 +15,18 @@ use Rattle.ccr_model.specs.Settling.{may_replicate, may_ack, may_sync, may_resyn
 use Rattle.ccr_model.specs.Past.{Past}
 use Rattle.ccr_law_core.specs.Cores.{Apart, IsReplica, IsCore}
 use Rattle.ccr_law_base.proofs.Lists.{All-weaker, All-both}
+use Rattle.ccr_law_base.proofs.Tests.{itself, other_turned}
 use Rattle.ccr_law_core.proofs.Sets.{count_absent, or_false}
 use Rattle.ccr_law_settle.specs.Left.{NothingMayBeDone, IsLeaderSettled}
 
-itself : (n : ℕ) → (n == n) ≡ true
-itself n = grind (arith, nat_tests)
-
-turned : (a b : ℕ) → (a == b) ≡ false → (b == a) ≡ false
-turned a b isnt = grind (arith, nat_tests)
-
 -- each replica is found by its number
-found_itself : (rs : List Replica) → Apart rs → AllByRecursion (λ (r : Replica). find (λ (x : Replica). x.copy.number == r.copy.number) rs ≡ Some r) rs
+pub found_itself : (rs : List Replica) → Apart rs → AllByRecursion (λ (r : Replica). find (λ (x : Replica). x.copy.number == r.copy.number) rs ≡ Some r) rs
 found_itself [] apart = tt
 found_itself (r ∷ rs) apart = (
   rw (itself r.copy.number) refl,
   All-weaker (λ (x : Replica). ((x.copy.number == r.copy.number) ≡ false) × (find (λ (y : Replica). y.copy.number == x.copy.number) rs ≡ Some x))
       (λ (x : Replica). find (λ (y : Replica). y.copy.number == x.copy.number) (r ∷ rs) ≡ Some x)
-      (λ x both. rw (turned x.copy.number r.copy.number both.0) both.1)
+      (λ x both. rw (other_turned x.copy.number r.copy.number both.0) both.1)
       rs (All-both (λ (x : Replica). (x.copy.number == r.copy.number) ≡ false) (λ (x : Replica). find (λ (y : Replica). y.copy.number == x.copy.number) rs ≡ Some x) rs apart.0 (found_itself rs apart.1)),
 )
 

@@ -2,12 +2,12 @@
 use Rattle.std.specs.List.{AllByRecursion, fold, list_any}
 use Rattle.std.specs.Prelude.{slice_get, filter}
 use Rattle.std.proofs.Common.{◌≡◌, ℕ, zero, suc, ◌+◌, ◌<◌, ◌≤◌, ◌==◌, ◌&&◌, ◌||◌, Bool, true, false, nat_lt, nat_le, Some, List, [], ◌∷◌, map, length, refl, subst, arith}
-use Rattle.std.proofs.lemmas.Bool.Decides.{nat_tests}
 use Rattle.ccr_model.specs.Requests.{Progress, on_its_way, waiting, held_back, is_sent}
 use Rattle.ccr_model.specs.Tasks.{Task, Read, changed_read, by_request, sent_reads}
 use Rattle.ccr_model.specs.Restores.{ChunkAsked, changed_ask}
 use Rattle.ccr_law_base.proofs.Cases.{on_if}
 use Rattle.ccr_law_base.proofs.Lists.{All-weaker, All-both, All-filter, All-filter_test, All-at}
+use Rattle.ccr_law_base.proofs.Tests.{itself, other_turned}
 use Rattle.ccr_law_settle.specs.Measure.{total, weight_of_progress}
 use Rattle.ccr_law_settle.specs.Within.{AreReadsApart, AreAsksApart}
 
@@ -22,12 +22,6 @@ lost_lighter may now until on_its_way is nothing =
     omega arith
 lost_lighter may now until (waiting other) is nothing = cc
 lost_lighter may now until held_back is nothing = cc
-
-itself : (n : ℕ) → (n == n) ≡ true
-itself n = grind (arith, nat_tests)
-
-turned : (a b : ℕ) → (a == b) ≡ false → (b == a) ≡ false
-turned a b isnt = grind (arith, nat_tests)
 
 -- ---- reads
 
@@ -49,7 +43,7 @@ each_loses may now until (x ∷ reads) apart = (
       rw (itself x.request) (omega arith)),
   All-weaker (λ (y : Read). ((y.request == x.request) ≡ false) × LosesRead may now until reads y) (LosesRead may now until (x ∷ reads))
       (λ y both is nothing.
-      let other : (x.request == y.request) ≡ false = turned y.request x.request both.0 in
+      let other : (x.request == y.request) ≡ false = other_turned y.request x.request both.0 in
       let rest : total (read_weight may now) (changed_read y.request (with_progress (waiting until)) reads) < total (read_weight may now) reads = both.1 is nothing in
       rw other (omega arith))
       reads
@@ -62,7 +56,7 @@ All-by_request P r (x ∷ reads) one all =
     on_if (AllByRecursion P) (nat_lt r.request x.request) (r ∷ x ∷ reads) (x ∷ by_request r reads)
     (λ is. (one, all)) (λ isnt. (all.0, All-by_request P r reads one all.1))
 
-All-in_order : (P : Read → Type 0) (reads acc : List Read) → AllByRecursion P acc → AllByRecursion P reads
+pub All-in_order : (P : Read → Type 0) (reads acc : List Read) → AllByRecursion P acc → AllByRecursion P reads
     → AllByRecursion P (fold {A = Read} {B = List Read} (λ rest r. by_request r rest) acc reads)
 All-in_order P [] acc sorted all = sorted
 All-in_order P (r ∷ reads) acc sorted all = All-in_order P reads (by_request r acc) (All-by_request P r acc all.0 sorted) all.1
@@ -108,7 +102,7 @@ each_ask_loses may now until (x ∷ asks) apart = (
       rw (itself x.request) (omega arith)),
   All-weaker (λ (y : ChunkAsked). ((y.request == x.request) ≡ false) × LosesAsk may now until asks y) (LosesAsk may now until (x ∷ asks))
       (λ y both is nothing.
-      let other : (x.request == y.request) ≡ false = turned y.request x.request both.0 in
+      let other : (x.request == y.request) ≡ false = other_turned y.request x.request both.0 in
       let rest : total (ask_weight may now) (changed_ask y.request (with_later (waiting until)) asks) < total (ask_weight may now) asks = both.1 is nothing in
       rw other (omega arith))
       asks

@@ -12,6 +12,7 @@ use Rattle.ccr_model.specs.Leaders.{Session}
 use Rattle.ccr_model.specs.Followers.{uuid_of}
 use Rattle.ccr_law_base.proofs.Cases.{on_if}
 use Rattle.ccr_law_base.proofs.Lists.{All-weaker, All-both, some_equal}
+use Rattle.ccr_law_base.proofs.Tests.{itself, other_turned}
 use Rattle.ccr_law_settle.specs.Measure.{total, is_gone, is_told_gone, is_idle_content, weight_of_frame}
 use Rattle.ccr_law_settle.specs.Within.{AreAsksApart}
 use Rattle.ccr_law_settle.proofs.Totals.{total_append}
@@ -19,12 +20,6 @@ use Rattle.ccr_law_settle.proofs.Flights.{IsPlain}
 use Rattle.ccr_law_settle.proofs.Syncing.{carries}
 use Rattle.ccr_law_settle.proofs.LostRequests.{ask_weight}
 use Rattle.ccr_law_settle.proofs.Due.{due_weighs}
-
-itself : (n : ℕ) → (n == n) ≡ true
-itself n = grind (arith, nat_tests)
-
-turned : (a b : ℕ) → (a == b) ≡ false → (b == a) ≡ false
-turned a b isnt = grind (arith, nat_tests)
 
 -- the first request of its number
 abbrev pub IsFirst : List ChunkAsked → ChunkAsked → Type 0
@@ -36,7 +31,7 @@ each_first [] apart = tt
 each_first (x ∷ asks) apart = (
   rw (itself x.request) refl,
   All-weaker (λ (y : ChunkAsked). ((y.request == x.request) ≡ false) × IsFirst asks y) (IsFirst (x ∷ asks))
-      (λ y both. rw (turned y.request x.request both.0) both.1) asks
+      (λ y both. rw (other_turned y.request x.request both.0) both.1) asks
       (All-both (λ (y : ChunkAsked). (y.request == x.request) ≡ false) (IsFirst asks) asks apart.0 (each_first asks apart.1)),
 )
 
@@ -50,7 +45,7 @@ total_without amount a (x ∷ asks) first =
       | false ↦ λ later. (let rest : total amount (without_ask a.request asks) + amount a ≡ total amount asks = total_without amount a asks later in omega arith)
     ]) first
 
-length_without : (a : ChunkAsked) (asks : List ChunkAsked) → IsFirst asks a → length (without_ask a.request asks) + 1 ≡ length asks
+pub length_without : (a : ChunkAsked) (asks : List ChunkAsked) → IsFirst asks a → length (without_ask a.request asks) + 1 ≡ length asks
 length_without a [] first = cc
 length_without a (x ∷ asks) first =
     (elim (x.request == a.request) as (λ b. (if b then Some x else find (λ (x : ChunkAsked). x.request == a.request) asks) ≡ Some a
@@ -59,7 +54,7 @@ length_without a (x ∷ asks) first =
       | false ↦ λ later. (let rest : length (without_ask a.request asks) + 1 ≡ length asks = length_without a asks later in omega arith)
     ]) first
 
-pushed_length : (asks : List ChunkAsked) (a : ChunkAsked) → length (asks ++ a ∷ []) ≡ length asks + 1
+pub pushed_length : (asks : List ChunkAsked) (a : ChunkAsked) → length (asks ++ a ∷ []) ≡ length asks + 1
 pushed_length [] a = omega arith
 pushed_length (x ∷ asks) a = let rest : length (asks ++ a ∷ []) ≡ length asks + 1 = pushed_length asks a in omega arith
 
@@ -90,10 +85,10 @@ other_first number b (x ∷ asks) more other first =
 
 -- ---- who is told that a session is gone
 
-abbrev answered_by : ℕ → ChunkAsked → Bool
+abbrev pub answered_by : ℕ → ChunkAsked → Bool
 answered_by request a = (request == a.request) && is_sent a.progress
 
-any_without : (number request : ℕ) (asks : List ChunkAsked) → list_any (answered_by request) (without_ask number asks) ≡ true → list_any (answered_by request) asks ≡ true
+pub any_without : (number request : ℕ) (asks : List ChunkAsked) → list_any (answered_by request) (without_ask number asks) ≡ true → list_any (answered_by request) asks ≡ true
 any_without number request [] any = cc
 any_without number request (x ∷ asks) any =
     on_if (λ (xs : List ChunkAsked). list_any (answered_by request) xs ≡ true → (answered_by request x || list_any (answered_by request) asks) ≡ true)

@@ -94,7 +94,7 @@ work_unsent n new old now (restoring r) step unsent = by r.stage unsent
 abbrev pub left : State → ℕ → State
 left s at = record s { flight = remove s.flight at }
 
-still : (s : State) (at : ℕ) (m : Frame) (uuid : List ℕ) (request : ℕ) → slice_get s.flight at ≡ Some m → (bytes_eq m.follower uuid && (m.request == request)) ≡ false
+pub still : (s : State) (at : ℕ) (m : Frame) (uuid : List ℕ) (request : ℕ) → slice_get s.flight at ≡ Some m → (bytes_eq m.follower uuid && (m.request == request)) ≡ false
     → may_be_answered s uuid request ≡ true → may_be_answered (left s at) uuid request ≡ true
 still s at m uuid request found other is =
     by (carries uuid request m) (list_any (carries uuid request) s.flight) (list_any (waits uuid request) s.leader.polls) (list_any (keeps s.leader.copies.primary uuid request) s.leader.kept)
@@ -121,7 +121,7 @@ works_left s at m found none =
     by f own there false ours = work_fewer (may_be_answered (left s at) (uuid_of f)) (may_be_answered s (uuid_of f)) own.now own.work
         (λ request is. still s at m (uuid_of f) request found (rw ours refl) is)
 
-idle_left : (flight : List Frame) (at : ℕ) (m : Frame) → slice_get flight at ≡ Some m → passing (λ (x : Frame). is_idle_content x.content) (remove flight at) ≤ passing (λ (x : Frame). is_idle_content x.content) flight
+pub idle_left : (flight : List Frame) (at : ℕ) (m : Frame) → slice_get flight at ≡ Some m → passing (λ (x : Frame). is_idle_content x.content) (remove flight at) ≤ passing (λ (x : Frame). is_idle_content x.content) flight
 idle_left flight at m found = no_more _ _ _ (total_remove (λ (x : Frame). if is_idle_content x.content then 1 else 0) flight at m found)
   where
     no_more : (a b one : ℕ) → a + one ≡ b → a ≤ b

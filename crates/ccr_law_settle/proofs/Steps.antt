@@ -21,6 +21,7 @@ use Rattle.ccr_model.specs.Step.{step}
 use Rattle.ccr_model.specs.FrameFacts.{next_request_of}
 use Rattle.ccr_law_base.proofs.Cases.{on_if}
 use Rattle.ccr_law_base.proofs.Lists.{some_equal}
+use Rattle.ccr_law_base.proofs.Tests.{same_turned}
 use Rattle.ccr_law_leases.proofs.Finding.{found-any}
 use Rattle.ccr_law_settle.specs.Measure.{over_followers, is_gone, is_told_gone, is_idle_content, rank_of, follower_lacks, old_peeks, IsLower}
 use Rattle.ccr_law_settle.specs.Within.{IsFresh, is_added, opens_next}
@@ -34,11 +35,10 @@ use Rattle.ccr_law_settle.proofs.Repeating.{AreBelow}
 use Rattle.ccr_law_settle.proofs.Ticking.{none_ahead}
 use Rattle.ccr_law_settle.proofs.Stale.{left}
 use Rattle.ccr_law_settle.proofs.Answering.{any_step}
-use Rattle.std.proofs.lemmas.Bool.Decides.{nat_tests}
 
 -- ---- a lower rank
 
-rank_lower : (s : State) (at f : ℕ) (own new : Follower) (sent : List Frame) → slice_get s.followers f ≡ Some own → AllByRecursion (IsPlain s.leader.sessions) sent
+pub rank_lower : (s : State) (at f : ℕ) (own new : Follower) (sent : List Frame) → slice_get s.followers f ≡ Some own → AllByRecursion (IsPlain s.leader.sessions) sent
     → rank_of s.flight s.leader.sessions f new.work < rank_of s.flight s.leader.sessions f own.work
     → IsLower (record s { followers = slice_set s.followers f new; flight = remove s.flight at ++ sent }) s
 rank_lower s at f own new sent there plain less = inl (
@@ -55,7 +55,7 @@ rank_lower s at f own new sent there plain less = inl (
 
 -- ---- a lease request that ends
 
-one_ends : (n : ℕ) (requests : List ℕ) → list_any (λ k. k == n) requests ≡ true → length (filter (λ k. not (k == n)) requests) < length requests
+pub one_ends : (n : ℕ) (requests : List ℕ) → list_any (λ k. k == n) requests ≡ true → length (filter (λ k. not (k == n)) requests) < length requests
 one_ends n [] any = cc
 one_ends n (k ∷ requests) any =
     (elim (k == n) as (λ b. (b || list_any (λ k. k == n) requests) ≡ true → length (if not b then k ∷ filter (λ k. not (k == n)) requests else filter (λ k. not (k == n)) requests) < length (k ∷ requests)) [
@@ -63,7 +63,7 @@ one_ends n (k ∷ requests) any =
       | false ↦ λ later. (let rest : length (filter (λ k. not (k == n)) requests) < length requests = one_ends n requests later in omega arith)
     ]) any
 
-ends_lower : (s : State) (at : ℕ) (m : Frame) (f : ℕ) (own : Follower) (requests : List ℕ) → slice_get s.flight at ≡ Some m → slice_get s.followers f ≡ Some own
+pub ends_lower : (s : State) (at : ℕ) (m : Frame) (f : ℕ) (own : Follower) (requests : List ℕ) → slice_get s.flight at ≡ Some m → slice_get s.followers f ≡ Some own
     → length requests < length own.lease_requests
     → IsLower (record s { followers = slice_set s.followers f (record own { lease_requests = requests }); flight = remove s.flight at ++ [] }) s
 ends_lower s at m f own requests found there few =
@@ -114,7 +114,7 @@ heard_fetching : (r : Restore) (f : Fetch) (a : ChunkAsked) (content : Content) 
 heard_fetching r f a (contents.SessionGone session) is = refl
 heard_fetching r f a _ is = cc
 
-any_at : {X : Type 0} (test : X → Bool) (xs : List X) (n : ℕ) (x : X) → slice_get xs n ≡ Some x → test x ≡ true → list_any test xs ≡ true
+pub any_at : {X : Type 0} (test : X → Bool) (xs : List X) (n : ℕ) (x : X) → slice_get xs n ≡ Some x → test x ≡ true → list_any test xs ≡ true
 any_at test [] n x at is = cc
 any_at test (y ∷ xs) zero x at is = let e : test y ≡ true = subst (λ z. test z ≡ true) (sym (some_equal y x at)) is in rw e refl
 any_at test (y ∷ xs) (suc n) x at is = late (test y) (list_any test xs) (any_at test xs n x at is)
@@ -122,9 +122,6 @@ any_at test (y ∷ xs) (suc n) x at is = late (test y) (list_any test xs) (any_a
     late : (a b : Bool) → b ≡ true → (a || b) ≡ true
     late true b is = refl
     late false b is = is
-
-turned : (a b : ℕ) → (a == b) ≡ true → (b == a) ≡ true
-turned a b is = grind (arith, nat_tests)
 
 -- the follower is about to learn that its session is gone
 told_gone : (s : State) (at : ℕ) (m : Frame) (f : ℕ) (fetch : Fetch) → slice_get s.flight at ≡ Some m → bytes_eq m.follower (uuid_of f) ≡ true → is_gone m.content ≡ true
@@ -140,7 +137,7 @@ told_gone s at m f fetch found ours gone waits =
     sent : list_any (λ (a : ChunkAsked). (m.request == a.request) && is_sent a.progress) fetch.asks ≡ true
     sent =
         any_step (λ (a : ChunkAsked). (a.request == m.request) && is_sent a.progress) (λ (a : ChunkAsked). (m.request == a.request) && is_sent a.progress) fetch.asks
-        (λ a. first (a.request == m.request) (m.request == a.request) (is_sent a.progress) (turned a.request m.request))
+        (λ a. first (a.request == m.request) (m.request == a.request) (is_sent a.progress) (same_turned a.request m.request))
         (sym (found-any (λ (a : ChunkAsked). (a.request == m.request) && is_sent a.progress) fetch.asks) ∙ waits)
 
 in_vain : (a b : Bool) → b ≡ true → 2 < (if a || b then 3 else 1)

@@ -21,6 +21,7 @@ use Rattle.ccr_model.specs.Step.{step}
 use Rattle.ccr_model.specs.Settling.{may_be_answered, waits_in, waits_in_stage, may_tick, may_act}
 use Rattle.ccr_law_base.proofs.Cases.{on_if}
 use Rattle.ccr_law_base.proofs.Lists.{All-weaker, All-filter, All-filter_test}
+use Rattle.ccr_law_base.proofs.Tests.{itself}
 use Rattle.ccr_law_settle.specs.Measure.{total, passing, over_followers, opens_closed, is_opened_in_vain, is_told_gone, is_in_vain, is_idle_content, weight_of_frame, weight_of_work, rank_of, work_lacks, follower_lacks, old_peeks, underway_of, IsLower}
 use Rattle.ccr_law_settle.specs.Within.{IsFresh, AreAsksApart, AreStageApart, AreRequestsApart}
 use Rattle.ccr_law_settle.proofs.Totals.{total_append, over_set, over_set_same}
@@ -103,9 +104,6 @@ resends_lower s f own after sent there resends =
         omega arith
 
 -- ---- a request for the lease or for a session
-
-itself : (n : ℕ) → (n == n) ≡ true
-itself n = grind (arith, nat_tests)
 
 -- what was sent may be answered
 pub sent_may_come : (s : State) (uuid : List ℕ) (request : ℕ) (sent : List Frame) → list_any (carries uuid request) sent ≡ true → may_be_answered (sending s sent) uuid request ≡ true

@@ -1,0 +1,41 @@
+-- Counts of the leader that are told and known: none is beyond what is committed.
+use Rattle.std.specs.Prelude.{◌≡◌, ℕ, ◌≤◌, List, slice_get, Some}
+use Rattle.std.specs.List.{AllByRecursion}
+use Rattle.ccr_wire.specs.Message.{Frame}
+use Rattle.ccr_wire.specs.declared.content.Content.{Content}
+use Rattle.ccr_wire.specs.declared.content.Content.TheVariants as contents
+use Rattle.ccr_journal.specs.declared.events.Event.{Event}
+use Rattle.ccr_model.specs.Tasks.{Task}
+use Rattle.ccr_model.specs.Leaders.{Start}
+use Rattle.ccr_model.specs.Followers.{Follower, Work, restoring, replicating}
+use Rattle.ccr_model.specs.Fit.{IsFitEvent}
+use Rattle.ccr_model.specs.Past.{Past, start_past}
+use Rattle.ccr_law_base.specs.Events.{past_by}
+use Rattle.ccr_law_followers.specs.CopyLaws.{IsGround, HasTrueFollowers}
+
+-- a reply to a read tells no more than is committed
+abbrev pub IsReplyWithin : ℕ → Content → Type 0
+IsReplyWithin cut (contents.ReadReply from global ops) = global ≤ cut
+IsReplyWithin cut _ = Unit {0}
+
+-- a task knows of no more, and has asked for no more
+pub record IsTaskWithin (cut : ℕ) (t : Task) : Type 0 where
+  pub known : t.known ≤ cut
+  pub next : t.next ≤ cut
+
+abbrev pub IsWorkWithin : ℕ → Work → Type 0
+IsWorkWithin cut (restoring r) = Unit {0}
+IsWorkWithin cut (replicating t) = IsTaskWithin cut t
+
+-- besides, a follower's primary knows at least the count at which the epoch of its task began
+pub record HasKnownCounts (p : Past) : Type 0 where
+  pub replies : AllByRecursion (λ (m : Frame). IsReplyWithin p.line.cut m.content) p.state.flight
+  pub tasks : (f : ℕ) (s : Follower) → slice_get p.state.followers f ≡ Some s → IsWorkWithin p.line.cut s.work
+  pub begun : (f : ℕ) (s : Follower) → slice_get p.state.followers f ≡ Some s → (p.followers f).begun_at ≤ s.copies.primary.global
+
+abbrev pub KnownStart : Type 0
+KnownStart = (start : Start) → HasKnownCounts (start_past start)
+
+-- where the claims on the leader's copies, the tasks, the messages, the sessions and the followers' copies hold, and the event is fit
+abbrev pub KnownKeep : Type 0
+KnownKeep = (p : Past) (event : Event) (picks : List ℕ) → IsGround p → IsFitEvent event → HasTrueFollowers p → HasKnownCounts p → HasKnownCounts (past_by p event picks)

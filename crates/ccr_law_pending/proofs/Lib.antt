@@ -1,0 +1,4 @@
+pub mod Bootstraps
+pub mod TaskCalls
+pub mod WorkRows
+pub mod EachEvent

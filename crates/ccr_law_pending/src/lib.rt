@@ -1,0 +1,12 @@
+//! What a follower has outstanding. No code of this crate does anything; the claims stand in `specs/`, their proofs in `proofs/`.
+#![tactic(auto)]
+
+ghost use Rattle.ccr_law_pending.specs.Pending.{PendingStart, PendingKeep};
+
+/// A bootstrap always waits for an answer: to its request for the lease, for a session, or for a part of a file, of which a fetch has at least one
+/// outstanding and has asked for no more than there are. A task that isn't active has no reads and an empty buffer. Nothing but a read is ever held back.
+/// So it is at the start, and each event keeps it.
+pub fn pending()
+    ensures start { PendingStart }
+    ensures keep { PendingKeep }
+{}

@@ -1,0 +1,10 @@
+pub mod TickReads
+pub mod TickWrites
+pub mod TickFills
+pub mod Ticks
+pub mod ReplyReads
+pub mod ReplyFills
+pub mod Replies
+pub mod ReplyRows
+pub mod Stops
+pub mod ReplyFacts

@@ -1,0 +1,10 @@
+use Rattle.ccr_law_settled.specs.Settles.{EachLowers, NoneIsLeft}
+use Rattle.ccr_law_settled.proofs.Full.{each_lowers, none_is_left}
+use Rattle.ccr_law_settled.proofs.Theorem.{always}
+use Rattle.ccr_law_settled.proofs.settling.Goals as goal
+
+pub returns-clause-lowers : goal.returns-clause-lowers
+returns-clause-lowers c = always EachLowers each_lowers
+
+pub returns-clause-settled : goal.returns-clause-settled
+returns-clause-settled c = always NoneIsLeft none_is_left
