@@ -26,5 +26,6 @@ pub mod Refusals
 pub mod Left
 pub mod Saying
 pub mod Stale
+pub mod Hearing
 pub mod Steps
 pub mod Framing

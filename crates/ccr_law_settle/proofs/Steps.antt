@@ -1,95 +1,32 @@
 -- Settling by the delivery of an answer that makes a bootstrap ask for a session lowers the measure.
-use Rattle.std.specs.List.{AllByRecursion, list_any}
+use Rattle.std.specs.List.{list_any}
 use Rattle.std.specs.Str.{bytes_eq}
-use Rattle.std.specs.Prelude.{slice_get, slice_set, remove, filter}
-use Rattle.std.proofs.Common.{◌≡◌, ℕ, zero, suc, ◌+◌, ◌≤◌, ◌<◌, ◌==◌, ◌&&◌, ◌||◌, not, Bool, true, false, if◌then◌else◌, inl, inr, Option, Some, None, List, [], ◌∷◌, ◌++◌, length, is_some, is_none, refl, sym, ◌∙◌, subst, arith}
+use Rattle.std.specs.Prelude.{slice_get}
+use Rattle.std.proofs.Common.{◌≡◌, ℕ, zero, suc, ◌<◌, ◌==◌, ◌&&◌, ◌||◌, Bool, true, false, if◌then◌else◌, Option, Some, None, List, [], ◌∷◌, is_some, is_none, refl, sym, ◌∙◌, subst, arith}
 use Rattle.ccr_wire.specs.Message.{Frame, kind_of_content}
 use Rattle.ccr_wire.specs.declared.kind.LeaseResult.TheVariants as results
 use Rattle.ccr_wire.specs.declared.content.Content.{Content}
 use Rattle.ccr_wire.specs.declared.content.Content.TheVariants as contents
 use Rattle.ccr_journal.specs.declared.events.Event.TheVariants as events
-use Rattle.ccr_model.specs.Outcomes.{Outcome}
 use Rattle.ccr_model.specs.Requests.{is_sent, Sending}
 use Rattle.ccr_model.specs.Restores.{Restore, Stage, leasing, opening, fetching, Fetch, ChunkAsked, answers, ask_sent, asks_session, hear_leasing, hear_fetching, hear_asked}
-use Rattle.ccr_model.specs.Copies.{Copy, copy_of}
 use Rattle.ccr_model.specs.Leaders.{session_of}
 use Rattle.ccr_model.specs.Followers.{Follower, Work, restoring, replicating, uuid_of}
-use Rattle.ccr_model.specs.FollowerRows.{restore_heard, work_hears, follower_receive_row}
-use Rattle.ccr_model.specs.LeaderFrames.{leader_receive}
-use Rattle.ccr_model.specs.World.{State, goes_to_leader, at_leader, at_follower, for_follower, at_named_follower, follower_of, deliver_row}
+use Rattle.ccr_model.specs.FollowerRows.{restore_heard, work_hears}
+use Rattle.ccr_model.specs.World.{State, goes_to_leader, at_follower, follower_of}
 use Rattle.ccr_model.specs.Step.{step}
 use Rattle.ccr_model.specs.FrameFacts.{next_request_of}
 use Rattle.ccr_law_base.proofs.Cases.{on_if}
 use Rattle.ccr_law_base.proofs.Lists.{some_equal}
 use Rattle.ccr_law_base.proofs.Tests.{same_turned}
 use Rattle.ccr_law_leases.proofs.Finding.{found-any}
-use Rattle.ccr_law_settle.specs.Measure.{over_followers, is_gone, is_told_gone, is_idle_content, rank_of, follower_lacks, old_peeks, IsLower}
+use Rattle.ccr_law_settle.specs.Measure.{is_gone, is_told_gone, rank_of, IsLower}
 use Rattle.ccr_law_settle.specs.Within.{IsFresh, is_added, opens_next}
-use Rattle.ccr_law_settle.proofs.Totals.{le_itself, over_set_same, over_set_less}
-use Rattle.ccr_law_settle.proofs.Joins.{append_none}
-use Rattle.ccr_law_settle.proofs.Flights.{IsPlain, ranks_more}
-use Rattle.ccr_law_settle.proofs.Taken.{total_remove, ranks_left}
-use Rattle.ccr_law_settle.proofs.Delivering.{primary_found}
-use Rattle.ccr_law_settle.proofs.Refusals.{fewer_left}
 use Rattle.ccr_law_settle.proofs.Repeating.{AreBelow}
 use Rattle.ccr_law_settle.proofs.Ticking.{none_ahead}
 use Rattle.ccr_law_settle.proofs.Stale.{left}
+use Rattle.ccr_law_settle.proofs.Hearing.{rank_lower, hearing_delivered}
 use Rattle.ccr_law_settle.proofs.Answering.{any_step}
-
--- ---- a lower rank
-
-pub rank_lower : (s : State) (at f : ℕ) (own new : Follower) (sent : List Frame) → slice_get s.followers f ≡ Some own → AllByRecursion (IsPlain s.leader.sessions) sent
-    → rank_of s.flight s.leader.sessions f new.work < rank_of s.flight s.leader.sessions f own.work
-    → IsLower (record s { followers = slice_set s.followers f new; flight = remove s.flight at ++ sent }) s
-rank_lower s at f own new sent there plain less = inl (
-    let more : over_followers (λ f own. rank_of (remove s.flight at ++ sent) s.leader.sessions f own.work) 0 (slice_set s.followers f new)
-    ≤ over_followers (λ f own. rank_of (remove s.flight at) s.leader.sessions f own.work) 0 (slice_set s.followers f new)
-    = ranks_more (remove s.flight at) sent s.leader.sessions (slice_set s.followers f new) plain in
-    let left : over_followers (λ f own. rank_of (remove s.flight at) s.leader.sessions f own.work) 0 (slice_set s.followers f new)
-    ≤ over_followers (λ f own. rank_of s.flight s.leader.sessions f own.work) 0 (slice_set s.followers f new)
-    = ranks_left s.flight at s.leader.sessions (slice_set s.followers f new) in
-    let set : over_followers (λ f own. rank_of s.flight s.leader.sessions f own.work) 0 (slice_set s.followers f new)
-    < over_followers (λ f own. rank_of s.flight s.leader.sessions f own.work) 0 s.followers
-    = over_set_less (λ f own. rank_of s.flight s.leader.sessions f own.work) f own new s.followers there less in
-    omega arith)
-
--- ---- a lease request that ends
-
-pub one_ends : (n : ℕ) (requests : List ℕ) → list_any (λ k. k == n) requests ≡ true → length (filter (λ k. not (k == n)) requests) < length requests
-one_ends n [] any = cc
-one_ends n (k ∷ requests) any =
-    (elim (k == n) as (λ b. (b || list_any (λ k. k == n) requests) ≡ true → length (if not b then k ∷ filter (λ k. not (k == n)) requests else filter (λ k. not (k == n)) requests) < length (k ∷ requests)) [
-      | true ↦ λ is. (let few : length (filter (λ k. not (k == n)) requests) ≤ length requests = fewer_left (λ k. not (k == n)) requests in omega arith)
-      | false ↦ λ later. (let rest : length (filter (λ k. not (k == n)) requests) < length requests = one_ends n requests later in omega arith)
-    ]) any
-
-pub ends_lower : (s : State) (at : ℕ) (m : Frame) (f : ℕ) (own : Follower) (requests : List ℕ) → slice_get s.flight at ≡ Some m → slice_get s.followers f ≡ Some own
-    → length requests < length own.lease_requests
-    → IsLower (record s { followers = slice_set s.followers f (record own { lease_requests = requests }); flight = remove s.flight at ++ [] }) s
-ends_lower s at m f own requests found there few =
-    subst (λ (flight : List Frame). IsLower (record s { followers = slice_set s.followers f new; flight = flight }) s) (sym (append_none (remove s.flight at)))
-    (inr (
-      (let left : over_followers (λ f own. rank_of (remove s.flight at) s.leader.sessions f own.work) 0 (slice_set s.followers f new)
-          ≤ over_followers (λ f own. rank_of s.flight s.leader.sessions f own.work) 0 (slice_set s.followers f new)
-          = ranks_left s.flight at s.leader.sessions (slice_set s.followers f new) in
-          let set : over_followers (λ f own. rank_of s.flight s.leader.sessions f own.work) 0 (slice_set s.followers f new)
-          ≤ over_followers (λ f own. rank_of s.flight s.leader.sessions f own.work) 0 s.followers
-          = over_set_same (λ f own. rank_of s.flight s.leader.sessions f own.work) f own new s.followers there (le_itself (rank_of s.flight s.leader.sessions f own.work)) in
-          omega arith),
-      inr (
-        (let le : over_followers (follower_lacks s.leader.copies.primary.seen.count) 0 (slice_set s.followers f new) ≤ over_followers (follower_lacks s.leader.copies.primary.seen.count) 0 s.followers
-            = over_set_same (follower_lacks s.leader.copies.primary.seen.count) f own new s.followers there (le_itself (follower_lacks s.leader.copies.primary.seen.count f own)) in
-            omega arith),
-        inl (both _ _ _ _ _ (total_remove (λ (x : Frame). if is_idle_content x.content then 1 else 0) s.flight at m found)
-            (over_set_less (λ f own. old_peeks own.work + length own.lease_requests) f own new s.followers there (omega arith))),
-      ),
-    ))
-  where
-    new : Follower
-    new = record own { lease_requests = requests }
-
-    both : (a b one c d : ℕ) → a + one ≡ b → c < d → a + c < b + d
-    both a b one c d sum lt = omega arith
 
 -- ---- the bootstrap asks for a session
 
@@ -178,22 +115,8 @@ work_opens : (s : State) (at : ℕ) (m : Frame) (f : ℕ) (base : Follower) (wor
 work_opens s at m f base (replicating t) found there below ours opens = cc
 work_opens s at m f base (restoring r) found there below ours opens = stage_opens s at m f base r r.stage found there below ours opens
 
-row_opens : (s : State) (at : ℕ) (m : Frame) (f : ℕ) (own : Follower) → slice_get s.flight at ≡ Some m → slice_get s.followers f ≡ Some own → AreBelow s.flight f (next_request_of own.work)
-    → bytes_eq m.follower (uuid_of f) ≡ true → opens_next m own.work ≡ true → IsLower (at_follower (left s at) f (follower_receive_row own m)).next s
-unfolding follower_receive_row
-row_opens s at m f own found there below ours opens =
-    on_if (λ (o : Outcome Follower). IsLower (at_follower (left s at) f o).next s) (list_any (λ n. n == m.request) own.lease_requests) _ _
-    (λ is. ends_lower s at m f own (filter (λ n. not (n == m.request)) own.lease_requests) found there (one_ends m.request own.lease_requests is))
-    (λ isnt. work_opens s at m f own own.work found there below ours opens)
-
 pub opening_delivered : (s : State) (at copy : ℕ) (picks : List ℕ) (m : Frame) (f : ℕ) (own : Follower) → slice_get s.flight at ≡ Some m → goes_to_leader (kind_of_content m.content) ≡ false
     → follower_of s.followers m.follower ≡ Some f → slice_get s.followers f ≡ Some own → IsFresh s f own → bytes_eq m.follower (uuid_of f) ≡ true → opens_next m own.work ≡ true
     → (copy == s.leader.copies.primary.number) ≡ true → IsLower (step s (events.Deliver at copy false) picks).next s
-unfolding deliver_row
 opening_delivered s at copy picks m f own found goes named there fresh ours opens primary =
-    subst (λ (o : Option Frame). IsLower (deliver_row s at copy false o (copy_of s.leader.copies copy)).next s) (sym found)
-    (subst (λ (o : Option Copy). IsLower (deliver_row s at copy false (Some m) o).next s) (sym (primary_found s.leader.copies copy primary))
-    (subst (λ (b : Bool). IsLower (if b then at_leader (left s at) (leader_receive s.leader copy m) else at_named_follower (left s at) m (follower_of s.followers m.follower)).next s) (sym goes)
-    (subst (λ (o : Option ℕ). IsLower (at_named_follower (left s at) m o).next s) (sym named)
-    (subst (λ (o : Option Follower). IsLower (for_follower (left s at) f (λ x. follower_receive_row x m) o).next s) (sym there)
-    (row_opens s at m f own found there fresh.drawn ours opens)))))
+    hearing_delivered s at copy picks m f own found goes named there (work_opens s at m f own own.work found there fresh.drawn ours opens) primary

@@ -30,7 +30,8 @@ use Rattle.ccr_law_settle.proofs.Framing.{theirs, own_name}
 use Rattle.ccr_law_settle.proofs.Saying.{delivered}
 use Rattle.ccr_law_settle_tasks.specs.TaskLowering.{IsAnswerToRead, RepliesLower}
 use Rattle.ccr_law_settle_tasks.proofs.Replies.{IsGoodReply}
-use Rattle.ccr_law_settle_tasks.proofs.ReplyRows.{row_delivered, read_hears, reply_lower}
+use Rattle.ccr_law_settle.proofs.Hearing.{hearing_delivered}
+use Rattle.ccr_law_settle_tasks.proofs.ReplyRows.{read_hears, reply_lower}
 use Rattle.ccr_law_settle_tasks.proofs.Stops.{NamesAlone, stop_lower}
 
 abbrev frame_of : List ℕ → ℕ → Content → Frame
@@ -107,20 +108,20 @@ pub replies_lower : (p : Past) → IsCore p → HasTrueFrames p → HasGoodTasks
 replies_lower p core frames tasks known = record {
   reply = λ at copy keep uuid request from global ops a may picks.
       delivered p.state at copy keep picks
-      (row_delivered p.state at copy picks (frame_of uuid request (contents.ReadReply from global ops)) a.number a.own a.found refl a.named a.there
-      (read_hears p.state at (frame_of uuid request (contents.ReadReply from global ops)) a.number a.own a.task a.read a.found a.there a.works a.waits
+      (hearing_delivered p.state at copy picks (frame_of uuid request (contents.ReadReply from global ops)) a.number a.own a.found refl a.named a.there
+      (read_hears p.state at (frame_of uuid request (contents.ReadReply from global ops)) a.number a.own a.task a.read a.works a.waits
       (reply_lower p.state at (frame_of uuid request (contents.ReadReply from global ops)) a.number a.own a.task a.read from global ops a.found refl a.there a.works
       (good_reply p core frames tasks known at uuid request from global ops a)))) may;
   missing = λ at copy keep uuid request from floor a may picks.
       delivered p.state at copy keep picks
-      (row_delivered p.state at copy picks (frame_of uuid request (contents.ReadMissing from floor)) a.number a.own a.found refl a.named a.there
-      (read_hears p.state at (frame_of uuid request (contents.ReadMissing from floor)) a.number a.own a.task a.read a.found a.there a.works a.waits
+      (hearing_delivered p.state at copy picks (frame_of uuid request (contents.ReadMissing from floor)) a.number a.own a.found refl a.named a.there
+      (read_hears p.state at (frame_of uuid request (contents.ReadMissing from floor)) a.number a.own a.task a.read a.works a.waits
       (stop_lower p.state at (frame_of uuid request (contents.ReadMissing from floor)) a.number a.own a.task phases.Missing a.found refl a.there a.works
       (names_alone p core frames at uuid request (contents.ReadMissing from floor) a)))) may;
   history = λ at copy keep uuid request history a may picks.
       delivered p.state at copy keep picks
-      (row_delivered p.state at copy picks (frame_of uuid request (contents.ReadHistory history)) a.number a.own a.found refl a.named a.there
-      (read_hears p.state at (frame_of uuid request (contents.ReadHistory history)) a.number a.own a.task a.read a.found a.there a.works a.waits
+      (hearing_delivered p.state at copy picks (frame_of uuid request (contents.ReadHistory history)) a.number a.own a.found refl a.named a.there
+      (read_hears p.state at (frame_of uuid request (contents.ReadHistory history)) a.number a.own a.task a.read a.works a.waits
       (stop_lower p.state at (frame_of uuid request (contents.ReadHistory history)) a.number a.own a.task phases.History a.found refl a.there a.works
       (names_alone p core frames at uuid request (contents.ReadHistory history) a)))) may;
 }

@@ -1,57 +1,34 @@
 -- Settling by the delivery of an answer to a read: what the follower makes of it, and a reply, which lowers the measure.
-use Rattle.std.specs.List.{AllByRecursion, list_any}
-use Rattle.std.specs.Prelude.{slice_get, slice_set, remove, filter}
-use Rattle.std.proofs.Common.{◌≡◌, inl, inr, ℕ, ◌+◌, ◌≤◌, ◌<◌, ◌==◌, not, Bool, true, false, if◌then◌else◌, Option, Some, List, ◌++◌, length, refl, sym, subst, arith}
+use Rattle.std.specs.List.{AllByRecursion}
+use Rattle.std.specs.Prelude.{slice_get, slice_set, remove}
+use Rattle.std.proofs.Common.{◌≡◌, inl, inr, ℕ, ◌+◌, ◌≤◌, ◌<◌, false, if◌then◌else◌, Option, Some, List, ◌++◌, length, refl, sym, subst, arith}
 use Rattle.ccr_op.specs.Operation.{Operation}
-use Rattle.ccr_wire.specs.Message.{Frame, kind_of_content}
+use Rattle.ccr_wire.specs.Message.{Frame}
 use Rattle.ccr_wire.specs.declared.content.Content.TheVariants as contents
-use Rattle.ccr_journal.specs.declared.events.Event.TheVariants as events
 use Rattle.ccr_model.specs.Outcomes.{Outcome}
 use Rattle.ccr_model.specs.Tasks.{Task, Read, read_sent, after_reply, filled_if_active}
 use Rattle.ccr_model.specs.Restores.{restore_hears}
-use Rattle.ccr_model.specs.Copies.{Copy, copy_of}
 use Rattle.ccr_model.specs.Followers.{Follower, Work, restoring, replicating}
-use Rattle.ccr_model.specs.FollowerRows.{with_task, restore_heard, hear_read, task_heard, follower_receive_row}
-use Rattle.ccr_model.specs.LeaderFrames.{leader_receive}
-use Rattle.ccr_model.specs.World.{State, goes_to_leader, at_leader, at_follower, for_follower, at_named_follower, follower_of, deliver_row}
-use Rattle.ccr_model.specs.Step.{step}
-use Rattle.ccr_law_base.proofs.Cases.{on_if}
+use Rattle.ccr_model.specs.FollowerRows.{with_task, restore_heard, hear_read, task_heard, work_hears}
+use Rattle.ccr_model.specs.World.{State, at_follower}
 use Rattle.ccr_law_settle.specs.Measure.{passing, over_followers, is_idle_content, rank_of, work_lacks, task_lacks, follower_lacks, old_peeks, lacking_of, idle_of, underway_of, leases_of, IsLess, IsLower}
 use Rattle.ccr_law_settle.proofs.Totals.{over_set, over_set_same, over_set_less}
 use Rattle.ccr_law_settle.proofs.Flights.{IsPlain, ranks_more, idle_more}
 use Rattle.ccr_law_settle.proofs.Taken.{total_remove, ranks_left}
-use Rattle.ccr_law_settle.proofs.Delivering.{primary_found}
 use Rattle.ccr_law_settle.proofs.Stale.{left}
-use Rattle.ccr_law_settle.proofs.Steps.{one_ends, ends_lower}
 use Rattle.ccr_law_settle_tasks.proofs.ReplyFills.{FillsOn}
 use Rattle.ccr_law_settle_tasks.proofs.Replies.{IsGoodReply, ComesNearer, reply_nearer, filled}
 
--- ---- the message is delivered
+-- ---- the task hears of its read
 
--- what the follower makes of the message that it is sent lowers the measure, and so does the delivery
-pub row_delivered : (s : State) (at copy : ℕ) (picks : List ℕ) (m : Frame) (f : ℕ) (own : Follower) → slice_get s.flight at ≡ Some m → goes_to_leader (kind_of_content m.content) ≡ false
-    → follower_of s.followers m.follower ≡ Some f → slice_get s.followers f ≡ Some own → IsLower (at_follower (left s at) f (follower_receive_row own m)).next s
-    → (copy == s.leader.copies.primary.number) ≡ true → IsLower (step s (events.Deliver at copy false) picks).next s
-unfolding deliver_row
-row_delivered s at copy picks m f own found goes named there lower primary =
-    subst (λ (o : Option Frame). IsLower (deliver_row s at copy false o (copy_of s.leader.copies copy)).next s) (sym found)
-    (subst (λ (o : Option Copy). IsLower (deliver_row s at copy false (Some m) o).next s) (sym (primary_found s.leader.copies copy primary))
-    (subst (λ (b : Bool). IsLower (if b then at_leader (left s at) (leader_receive s.leader copy m) else at_named_follower (left s at) m (follower_of s.followers m.follower)).next s) (sym goes)
-    (subst (λ (o : Option ℕ). IsLower (at_named_follower (left s at) m o).next s) (sym named)
-    (subst (λ (o : Option Follower). IsLower (for_follower (left s at) f (λ x. follower_receive_row x m) o).next s) (sym there) lower))))
-
--- a lease request of that number ends, or the task hears of its read
-pub read_hears : (s : State) (at : ℕ) (m : Frame) (f : ℕ) (own : Follower) (t : Task) (r : Read) → slice_get s.flight at ≡ Some m → slice_get s.followers f ≡ Some own → own.work ≡ replicating t
-    → read_sent t m.request ≡ Some r → IsLower (at_follower (left s at) f (hear_read own t r m.content)).next s → IsLower (at_follower (left s at) f (follower_receive_row own m)).next s
-unfolding follower_receive_row
-read_hears s at m f own t r found there works waits lower =
-    on_if (λ (o : Outcome Follower). IsLower (at_follower (left s at) f o).next s) (list_any (λ n. n == m.request) own.lease_requests) _ _
-    (λ is. ends_lower s at m f own (filter (λ n. not (n == m.request)) own.lease_requests) found there (one_ends m.request own.lease_requests is))
-    (λ isnt. subst (λ (w : Work). IsLower (at_follower (left s at) f (elim w as (λ _. Outcome Follower) [
+pub read_hears : (s : State) (at : ℕ) (m : Frame) (f : ℕ) (own : Follower) (t : Task) (r : Read) → own.work ≡ replicating t → read_sent t m.request ≡ Some r
+    → IsLower (at_follower (left s at) f (hear_read own t r m.content)).next s → IsLower (at_follower (left s at) f (work_hears own m)).next s
+read_hears s at m f own t r works waits lower =
+    subst (λ (w : Work). IsLower (at_follower (left s at) f (elim w as (λ _. Outcome Follower) [
       | restoring x ↦ restore_heard own (restore_hears x own.now m)
       | replicating x ↦ task_heard own x m.content (read_sent x m.request)
     ])).next s) (sym works)
-    (subst (λ (o : Option Read). IsLower (at_follower (left s at) f (task_heard own t m.content o)).next s) (sym waits) lower))
+    (subst (λ (o : Option Read). IsLower (at_follower (left s at) f (task_heard own t m.content o)).next s) (sym waits) lower)
 
 -- ---- a task that comes nearer
 

@@ -4,5 +4,4 @@ pub mod Values
 pub mod Sources
 pub mod Small
 pub mod Events
-pub mod Journals
 pub mod Places

@@ -20,7 +20,7 @@ use Rattle.ccr_law_stores.proofs.Rows.{IsFit, primary-fit}
 use Rattle.ccr_law_stores.proofs.Sessions.{session-of-leader}
 use Rattle.ccr_law_stores.proofs.Events.{stores-start, stores-keeps}
 use Rattle.ccr_law_spelled.proofs.Small.{count-low, processed-low, line-spelled}
-use Rattle.ccr_law_spelled.proofs.Journals.{by_fit_entries}
+use Rattle.ccr_law_base.proofs.Journals.{by_fit_entries}
 use Rattle.ccr_law_spelled.proofs.Events.{small-keeps}
 
 -- ---- what the claims imply
