@@ -152,7 +152,7 @@ fn next_write(held: &HeldOperations, request: &WriteRequest) -> Result<Wrote, Al
 
 // The operations from a place on.
 fn rest_from(ops: &[Op], from: u64) -> &[Op]
-    requires { from < length ops.now }
+    requires { from ≤ length ops.now }
     ensures { result.now ≡ drop from ops.now }
 {
     &ops[from as usize..]
