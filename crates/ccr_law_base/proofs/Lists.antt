@@ -1,9 +1,12 @@
 -- Lemmas on lists: what holds of each element, look-ups, and changes of one element.
 use Rattle.std.specs.List.{AllByRecursion, list_any, range_with_len}
-use Rattle.std.specs.Prelude.{find, filter, slice_get, slice_set, remove}
-use Rattle.std.proofs.Common.{◌≡◌, ℕ, zero, suc, ◌+◌, ◌<◌, ◌==◌, ◌&&◌, Bool, true, false, not, nat_lt, Option, Some, None, List, [], ◌∷◌, ◌++◌, map, length, take, drop, refl, ap, subst, arith}
+use Rattle.std.specs.Prelude.{find, filter, cond, is_some, slice_get, slice_set, remove}
+use Rattle.std.specs.Str.{bytes_eq}
+use Rattle.std.proofs.Common.{◌≡◌, ℕ, zero, suc, ◌+◌, ◌-◌, ◌<◌, ◌==◌, ◌&&◌, ◌||◌, if◌then◌else◌, Bool, true, false, not, nat_lt, Option, Some, None, List, [], ◌∷◌, ◌++◌, map, length, take, drop, refl, ap, subst, arith}
 use Rattle.std.proofs.lemmas.Bool.Decides.{nat_tests}
 use Rattle.ccr_model.specs.Copies.{Copy, Replica, replaced, without, changed_replica}
+use Rattle.ccr_model.specs.Tasks.{Read, changed_read, without_read, by_request}
+use Rattle.ccr_model.specs.Leaders.{Poll, without_poll}
 use Rattle.ccr_law_base.proofs.Cases.{on_if}
 
 -- ---- what holds of each element
@@ -72,6 +75,10 @@ All-set P [] n x all new = tt
 All-set P (y ∷ xs) zero x all new = (new, all.1)
 All-set P (y ∷ xs) (suc n) x all new = (all.0, All-set P xs n x all.1 new)
 
+pub All-places : {X : Type 0} (P : X → Type 0) (xs : List X) → ((n : ℕ) (x : X) → slice_get xs n ≡ Some x → P x) → AllByRecursion P xs
+All-places P [] each = tt
+All-places P (x ∷ xs) each = (each zero x refl, All-places P xs (λ n y at. each (suc n) y at))
+
 pub All-drop : {X : Type 0} (P : X → Type 0) (n : ℕ) (xs : List X) → AllByRecursion P xs → AllByRecursion P (drop n xs)
 All-drop P zero [] all = tt
 All-drop P (suc n) [] all = tt
@@ -98,6 +105,30 @@ find_none test (y ∷ xs) none =
     on_if (λ (o : Option _). o ≡ None → AllByRecursion (λ x. test x ≡ false) (y ∷ xs)) (test y) (Some y) (find test xs)
     (λ is at. cc) (λ isnt at. (isnt, find_none test xs at)) none
 
+-- one is found where one passes
+pub found-any : {X : Type 0} (test : X → Bool) (xs : List X) → is_some (find test xs) ≡ list_any test xs
+found-any test [] = refl
+found-any test (x ∷ xs) = elim (test x) as (λ b. is_some (cond b (Some x) (find test xs)) ≡ (b || list_any test xs)) [ true ↦ refl | false ↦ found-any test xs ]
+
+-- what is set is there, and the others are as they were
+pub set-same : {X : Type 0} (xs : List X) (i : ℕ) (x y : X) → slice_get xs i ≡ Some x → slice_get (slice_set xs i y) i ≡ Some y
+set-same [] i x y at = absurd cc
+set-same (z ∷ xs) zero x y at = refl
+set-same (z ∷ xs) (suc i) x y at = set-same xs i x y at
+
+pub set-other : {X : Type 0} (xs : List X) (i j : ℕ) (y : X) → (i == j) ≡ false → slice_get (slice_set xs i y) j ≡ slice_get xs j
+set-other [] zero j y other = refl
+set-other [] (suc i) j y other = refl
+set-other (z ∷ xs) zero zero y other = absurd cc
+set-other (z ∷ xs) zero (suc j) y other = refl
+set-other (z ∷ xs) (suc i) zero y other = refl
+set-other (z ∷ xs) (suc i) (suc j) y other = set-other xs i j y (let e : (i == j) ≡ false = grind (arith, nat_tests) in e)
+
+pub push-old : {X : Type 0} (xs : List X) (i : ℕ) (x y : X) → slice_get xs i ≡ Some x → slice_get (xs ++ y ∷ []) i ≡ Some x
+push-old [] i x y at = absurd cc
+push-old (z ∷ xs) zero x y at = at
+push-old (z ∷ xs) (suc i) x y at = push-old xs i x y at
+
 -- ---- changes of one replica
 
 pub All-replaced : (P : Replica → Type 0) (copy : ℕ) (new : Replica) (rs : List Replica) → P new → AllByRecursion P rs → AllByRecursion P (replaced copy new rs)
@@ -119,6 +150,34 @@ All-changed P Q copy change same changes [] all = tt
 All-changed P Q copy change same changes (r ∷ rs) all =
     on_if (AllByRecursion Q) (r.copy.number == copy) (record r { copy = change r.copy } ∷ rs) (r ∷ changed_replica copy change rs)
     (λ is. (changes r is all.0, All-weaker P Q same rs all.1)) (λ isnt. (same r all.0, All-changed P Q copy change same changes rs all.1))
+
+-- ---- changes of one read, and a poll that leaves
+
+pub All-changed_read : (P : Read → Type 0) (request : ℕ) (change : Read → Read) → ((r : Read) → P r → P (change r)) → (reads : List Read)
+    → AllByRecursion P reads → AllByRecursion P (changed_read request change reads)
+All-changed_read P request change keeps [] all = tt
+All-changed_read P request change keeps (r ∷ reads) all =
+    on_if (AllByRecursion P) (r.request == request) (change r ∷ reads) (r ∷ changed_read request change reads)
+    (λ is. (keeps r all.0, all.1)) (λ isnt. (all.0, All-changed_read P request change keeps reads all.1))
+
+pub All-without_read : (P : Read → Type 0) (request : ℕ) (reads : List Read) → AllByRecursion P reads → AllByRecursion P (without_read request reads)
+All-without_read P request [] all = tt
+All-without_read P request (r ∷ reads) all =
+    on_if (AllByRecursion P) (r.request == request) reads (r ∷ without_read request reads) (λ is. all.1) (λ isnt. (all.0, All-without_read P request reads all.1))
+
+pub All-by_request : (P : Read → Type 0) (r : Read) (reads : List Read) → P r → AllByRecursion P reads → AllByRecursion P (by_request r reads)
+All-by_request P r [] one all = (one, tt)
+All-by_request P r (x ∷ reads) one all =
+    on_if (AllByRecursion P) (nat_lt r.request x.request) (r ∷ x ∷ reads) (x ∷ by_request r reads)
+    (λ is. (one, all)) (λ isnt. (all.0, All-by_request P r reads one all.1))
+
+pub All-without_poll : (P : Poll → Type 0) (follower : List ℕ) (at : ℕ) (polls : List Poll) → AllByRecursion P polls → AllByRecursion P (without_poll follower at polls)
+All-without_poll P follower at [] all = tt
+All-without_poll P follower at (p ∷ polls) all =
+    on_if (AllByRecursion P) (bytes_eq p.follower follower) (if at == 0 then polls else p ∷ without_poll follower (at - 1) polls) (p ∷ without_poll follower at polls)
+    (λ own. on_if (AllByRecursion P) (at == 0) polls (p ∷ without_poll follower (at - 1) polls)
+    (λ first. all.1) (λ later. (all.0, All-without_poll P follower (at - 1) polls all.1)))
+    (λ other. (all.0, All-without_poll P follower at polls all.1))
 
 -- ---- numbers from one on
 

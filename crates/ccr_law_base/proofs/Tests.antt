@@ -1,5 +1,5 @@
 -- Tests that come out as they have to.
-use Rattle.std.proofs.Common.{◌≡◌, ℕ, ◌==◌, Bool, true, false, refl, arith}
+use Rattle.std.proofs.Common.{◌≡◌, ℕ, ◌==◌, ◌||◌, Bool, true, false, refl, arith}
 use Rattle.std.proofs.lemmas.Bool.Decides.{nat_tests}
 
 pub itself : (n : ℕ) → (n == n) ≡ true
@@ -19,3 +19,8 @@ by_test P false holds fails = fails refl
 pub not_true : (b : Bool) → (b ≡ true → ⊥) → b ≡ false
 not_true true none = absurd (none refl)
 not_true false none = refl
+
+-- a test that comes out more often does so beside another
+pub or-more : (a b c : Bool) → (b ≡ true → c ≡ true) → (a || b) ≡ true → (a || c) ≡ true
+or-more true b c more is = refl
+or-more false b c more is = more is

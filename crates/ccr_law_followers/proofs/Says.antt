@@ -1,7 +1,7 @@
 -- What the claims on the followers' copies imply.
 use Rattle.std.specs.List.{AllByRecursion}
 use Rattle.std.specs.Prelude.{slice_get}
-use Rattle.std.proofs.Common.{◌≡◌, ℕ, suc, Option, Some, List, [], ◌∷◌, refl}
+use Rattle.std.proofs.Common.{◌≡◌, ℕ, Option, Some, List}
 use Rattle.ccr_op.specs.Operation.{Operation}
 use Rattle.ccr_model.specs.Stores.{held}
 use Rattle.ccr_model.specs.Copies.{Copy, Replica, Copies, all_copies}
@@ -12,7 +12,7 @@ use Rattle.ccr_model.specs.CopyFacts.{IsKnownTruly}
 use Rattle.ccr_model.specs.FrameFacts.{IsCommitted}
 use Rattle.ccr_model.specs.Invariants.{HasProcessed, IsTrueFollowerCopy, AreTrueCopies, IsTrueReplication}
 use Rattle.ccr_model.specs.Headline.{HoldsCommitted}
-use Rattle.ccr_law_base.proofs.Lists.{All-weaker, All-map}
+use Rattle.ccr_law_base.proofs.Lists.{All-weaker, All-map, All-places}
 use Rattle.ccr_law_followers.specs.TrueCopies.{CopyOk, ReplicaOk, CopiesOf, HasTrueCopies, WritesCommitted, HasCommittedBatches, IsTrueCopyGroup}
 use Rattle.ccr_law_followers.proofs.One.{copy-says}
 
@@ -43,10 +43,6 @@ followers-say p ok f s at = record {
 }
 
 -- ---- what is held
-
-pub All-places : {X : Type 0} (P : X → Type 0) (xs : List X) → ((n : ℕ) (x : X) → slice_get xs n ≡ Some x → P x) → AllByRecursion P xs
-All-places P [] each = tt
-All-places P (x ∷ xs) each = (each 0 x refl, All-places P xs (λ n y at. each (suc n) y at))
 
 pub holds-committed : (p : Past) → HasTrueCopies p → HoldsCommitted p
 holds-committed p ok =

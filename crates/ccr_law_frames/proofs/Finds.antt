@@ -1,8 +1,7 @@
 -- What a test finds in a list where one more element stands in it, one leaves it, or one is changed.
-use Rattle.std.specs.Prelude.{find, slice_get, slice_set, ◌⊎◌, IfSome, ◌==◌}
+use Rattle.std.specs.Prelude.{find, slice_get, slice_set, ◌⊎◌, IfSome}
 use Rattle.std.specs.List.{AllByRecursion}
 use Rattle.std.proofs.Common.{◌≡◌, ℕ, zero, suc, ◌+◌, ◌<◌, Bool, true, false, cond, Option, Some, None, List, [], ◌∷◌, ◌++◌, length, refl, sym, ◌∙◌, ap, subst, arith, inl, inr}
-use Rattle.std.proofs.lemmas.Bool.Decides.{nat_tests}
 use Rattle.ccr_law_frames.specs.Asking.{IsNoMore}
 use Rattle.ccr_law_base.proofs.Cases.{on_if}
 
@@ -71,32 +70,11 @@ found-if P o x found holds = subst (λ (z : Option _). IfSome z P) found holds
 
 -- ---- places in a list
 
-pub set-same : {X : Type 0} (xs : List X) (i : ℕ) (x y : X) → slice_get xs i ≡ Some x → slice_get (slice_set xs i y) i ≡ Some y
-set-same [] i x y at = absurd cc
-set-same (z ∷ xs) zero x y at = refl
-set-same (z ∷ xs) (suc i) x y at = set-same xs i x y at
-
-eqb-suc : (i j : ℕ) → (suc i == suc j) ≡ false → (i == j) ≡ false
-eqb-suc i j other = grind (arith, nat_tests)
-
-pub set-other : {X : Type 0} (xs : List X) (i j : ℕ) (y : X) → (i == j) ≡ false → slice_get (slice_set xs i y) j ≡ slice_get xs j
-set-other [] zero j y other = refl
-set-other [] (suc i) j y other = refl
-set-other (z ∷ xs) zero zero y other = absurd cc
-set-other (z ∷ xs) zero (suc j) y other = refl
-set-other (z ∷ xs) (suc i) zero y other = refl
-set-other (z ∷ xs) (suc i) (suc j) y other = set-other xs i j y (eqb-suc i j other)
-
 pub length-set : {X : Type 0} (xs : List X) (i : ℕ) (y : X) → length (slice_set xs i y) ≡ length xs
 length-set [] zero y = refl
 length-set [] (suc i) y = refl
 length-set (z ∷ xs) zero y = refl
 length-set (z ∷ xs) (suc i) y = let rest : length (slice_set xs i y) ≡ length xs = length-set xs i y in omega arith
-
-pub push-old : {X : Type 0} (xs : List X) (i : ℕ) (x y : X) → slice_get xs i ≡ Some x → slice_get (xs ++ y ∷ []) i ≡ Some x
-push-old [] i x y at = absurd cc
-push-old (z ∷ xs) zero x y at = at
-push-old (z ∷ xs) (suc i) x y at = push-old xs i x y at
 
 -- what stands at a place of the longer list stood there, or is the new one, which stands at the end
 pub push-at : {X : Type 0} (xs : List X) (i : ℕ) (x y : X) → slice_get (xs ++ y ∷ []) i ≡ Some x → (slice_get xs i ≡ Some x) ⊎ ((y ≡ x) × (i ≡ length xs))

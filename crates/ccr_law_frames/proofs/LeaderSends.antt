@@ -1,5 +1,5 @@
 -- What the leader answers is true, and so are the polls and the requests that it keeps.
-use Rattle.std.specs.Prelude.{filter, slice_get, not, nat_lt, ◌==◌, ◌-◌, unwrap_or, IfSome}
+use Rattle.std.specs.Prelude.{filter, slice_get, not, nat_lt, ◌==◌, unwrap_or, IfSome}
 use Rattle.std.specs.Str.{bytes_eq}
 use Rattle.std.specs.List.{AllByRecursion}
 use Rattle.std.proofs.Common.{◌≡◌, ℕ, zero, suc, ◌≤◌, true, false, if◌then◌else◌, Option, Some, None, List, [], ◌∷◌, ◌++◌, map, length, take, drop, refl, sym, ◌∙◌, ap, subst, arith}
@@ -27,7 +27,7 @@ use Rattle.ccr_law_frames.specs.TrueFrames.{Scene, setting, IsOfFollower, frame_
 use Rattle.ccr_law_frames.proofs.Finds.{if-weaker}
 use Rattle.ccr_law_frames.proofs.Openings.{OpensOne}
 use Rattle.ccr_law_frames.proofs.Silent.{IsSilent, fail_copy-silent}
-use Rattle.ccr_law_base.proofs.Lists.{All-weaker, All-append, All-push, All-filter, All-map, All-at, All-find}
+use Rattle.ccr_law_base.proofs.Lists.{All-weaker, All-append, All-push, All-filter, All-map, All-at, All-find, All-without_poll}
 use Rattle.ccr_law_base.proofs.Cases.{on_if, on_guards}
 
 -- what is told after the leader did something
@@ -102,13 +102,6 @@ read-tells scene followers l p copy (Some c) brings of told =
     on_if (RowTells scene followers) (has_to_wait l p c) _ _
     (λ waits. record { sent_ok = tt; polls_ok = All-push (λ (x : Poll). IsOfFollower scene followers (frame_of_poll x)) l.polls p told.polls_ok of; kept_ok = told.kept_ok })
     (λ now. answer_read-tells scene followers l p c l (brings c refl) of told)
-
-All-without_poll : (P : Poll → Type 0) (follower : List ℕ) (at : ℕ) (polls : List Poll) → AllByRecursion P polls → AllByRecursion P (without_poll follower at polls)
-All-without_poll P follower at [] all = tt
-All-without_poll P follower at (p ∷ polls) all =
-    on_if (AllByRecursion P) (bytes_eq p.follower follower) (if at == 0 then polls else p ∷ without_poll follower (at - 1) polls) (p ∷ without_poll follower at polls)
-    (λ own. on_if (AllByRecursion P) (at == 0) polls (p ∷ without_poll follower (at - 1) polls) (λ first. all.1) (λ later. (all.0, All-without_poll P follower (at - 1) polls all.1)))
-    (λ other. (all.0, All-without_poll P follower at polls all.1))
 
 wake_found-tells : (scene : Scene) (followers : List Follower) (l : Leader) (follower : List ℕ) (at : ℕ) (p : Poll) (found : Option Copy) → ((c : Copy) → found ≡ Some c → CopyBrings scene.line c)
     → IsOfFollower scene followers (frame_of_poll p) → Told scene followers l → RowTells scene followers (wake_row l follower at (Some p) found)

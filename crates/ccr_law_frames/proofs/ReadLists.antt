@@ -8,7 +8,7 @@ use Rattle.ccr_model.specs.Tasks.{Read, changed_read, without_read, by_request, 
 use Rattle.ccr_law_frames.specs.Asking.{IsNoMore, ReadsApart}
 use Rattle.ccr_law_frames.specs.Saying.{AreGoodReads}
 use Rattle.ccr_law_frames.proofs.Finds.{find-skips, find-takes, find-none, find-back, find-push-other, no_more-cons, no_more-leaves, no_more-changes}
-use Rattle.ccr_law_base.proofs.Lists.{All-weaker, All-every, All-push, All-both, All-filter}
+use Rattle.ccr_law_base.proofs.Lists.{All-weaker, All-every, All-push, All-both, All-filter, All-changed_read, All-without_read}
 use Rattle.ccr_law_base.proofs.Cases.{on_if}
 
 -- the read was sent under this number
@@ -58,16 +58,6 @@ push-found next r reads low is =
     ∙ find-takes (answers_to next) r [] is
 
 -- ---- what holds of each
-
-pub All-changed_read : (P : Read → Type 0) (q : ℕ) (f : Read → Read) → ((r : Read) → P r → P (f r)) → (reads : List Read) → AllByRecursion P reads → AllByRecursion P (changed_read q f reads)
-All-changed_read P q f keeps [] a = tt
-All-changed_read P q f keeps (r ∷ reads) a =
-    on_if (λ (rs : List Read). AllByRecursion P rs) (r.request == q) (f r ∷ reads) (r ∷ changed_read q f reads) (λ is. (keeps r a.0, a.1)) (λ isnt. (a.0, All-changed_read P q f keeps reads a.1))
-
-pub All-without_read : (P : Read → Type 0) (q : ℕ) (reads : List Read) → AllByRecursion P reads → AllByRecursion P (without_read q reads)
-All-without_read P q [] a = tt
-All-without_read P q (r ∷ reads) a =
-    on_if (λ (rs : List Read). AllByRecursion P rs) (r.request == q) reads (r ∷ without_read q reads) (λ is. a.1) (λ isnt. (a.0, All-without_read P q reads a.1))
 
 -- the same numbers
 changed-apart : (q : ℕ) (f : Read → Read) → ((r : Read) → (f r).request ≡ r.request) → (reads : List Read) → ReadsApart reads → ReadsApart (changed_read q f reads)

@@ -3,8 +3,7 @@ use Rattle.std.specs.Prelude.{slice_get, IfSome, ◌==◌}
 use Rattle.std.specs.Str.{bytes_eq}
 use Rattle.std.proofs.lemmas.Slice.Eq.{bytes_eq-Decides}
 use Rattle.std.specs.Option.{option_map, option_and_then}
-use Rattle.std.specs.List.{AllByRecursion}
-use Rattle.std.proofs.Common.{◌≡◌, ℕ, suc, zero, ◌<◌, ◌≤◌, true, false, Option, Some, None, List, [], ◌∷◌, length, refl, sym, ◌∙◌, ap, subst, arith}
+use Rattle.std.proofs.Common.{◌≡◌, ℕ, ◌<◌, ◌≤◌, true, false, Option, Some, None, List, length, refl, sym, ◌∙◌, ap, subst, arith}
 use Rattle.ccr_op.specs.Operation.{Operation}
 use Rattle.ccr_wire.specs.Message.{Frame}
 use Rattle.ccr_wire.specs.declared.content.Content.{Content}
@@ -25,7 +24,7 @@ use Rattle.ccr_law_frames.specs.TrueFrames.{setting, IsOfFollower, frame_of_poll
 use Rattle.ccr_law_frames.specs.FrameLaws.{NamesFollower, IsAboutLease, IsOwn, IsOwnKept, IsRunOf, AreOwn, IsMessageOf, AreTheirs, FramesSay}
 use Rattle.ccr_law_frames.proofs.Finds.{if-weaker, at-below}
 use Rattle.ccr_law_frames.proofs.Naming.{differs, named-at}
-use Rattle.ccr_law_base.proofs.Lists.{All-weaker, All-find, some_equal}
+use Rattle.ccr_law_base.proofs.Lists.{All-weaker, All-find, some_equal, All-places}
 
 -- ---- whose a message is
 
@@ -148,11 +147,6 @@ true-work : (p : Past) (f : ℕ) (lease : List ℕ) (work : Work) → IsGoodWork
 true-work p f lease (restoring r) good = true-stage p f lease r.next_request r.stage good.stage
 true-work p f lease (replicating t) good = tt
 
--- what holds at each place holds of all
-all-at : {X : Type 0} (P : X → Type 0) (xs : List X) → ((n : ℕ) (x : X) → slice_get xs n ≡ Some x → P x) → AllByRecursion P xs
-all-at P [] each = tt
-all-at P (x ∷ xs) each = (each zero x refl, all-at P xs (λ n y at. each (suc n) y at))
-
 -- ---- what is stated
 
 frames-true : (p : Past) → IsCore p → HasTrueFrames p → AreTrueFrames p
@@ -167,7 +161,7 @@ frames-true p core now = record {
   kept = All-weaker (λ (k : KeptRequest). IsOfFollower (scene_of p) p.state.followers (frame_of_kept k)) (λ (k : KeptRequest). IsDrawn p.state k.follower k.request)
       (λ k of. is-drawn p (frame_of_kept k) now.messages.few of) p.state.leader.kept now.messages.kept_ok;
   sessions = All-weaker (IsTrueSession p.line) (HoldsHistory p.line) (λ session serves. session-holds p.line session core.rest.primary.numbered serves) p.opened now.sessions.hold;
-  works = all-at (λ (f : Follower). IsTrueWork p f.work) p.state.followers (λ f s at. true-work p f s.lease s.work (now.messages.works f s at).work);
+  works = All-places (λ (f : Follower). IsTrueWork p f.work) p.state.followers (λ f s at. true-work p f s.lease s.work (now.messages.works f s at).work);
 }
 
 names : (p : Past) (m : Frame) → length p.state.followers ≤ most_followers → (of : IsOfFollower (scene_of p) p.state.followers m) → NamesFollower p m.follower

@@ -10,10 +10,10 @@ use Rattle.ccr_model.specs.World.{most_followers}
 use Rattle.ccr_model.specs.Past.{Line}
 use Rattle.ccr_law_frames.specs.Saying.{IsTrueMessage, IsGoodWork}
 use Rattle.ccr_law_frames.specs.TrueFrames.{Scene, setting, IsOfFollower, frame_of_poll, frame_of_kept, AreOfFollowers, IsGoodFollower, AreGoodFollowers, Tells}
-use Rattle.ccr_law_frames.proofs.Finds.{set-same, set-other, length-set, push-old, push-at, push-new, length-push}
+use Rattle.ccr_law_frames.proofs.Finds.{length-set, push-at, push-new, length-push}
 use Rattle.ccr_law_frames.proofs.Moving.{GrowsTo, followed-message, grown-message, grown-work}
 use Rattle.ccr_law_frames.proofs.FollowerGoes.{GoesOn, StartsWell}
-use Rattle.ccr_law_base.proofs.Lists.{All-weaker, All-append, some_equal}
+use Rattle.ccr_law_base.proofs.Lists.{All-weaker, All-append, some_equal, push-old, set-other, set-same}
 
 -- ---- the line grows, and sessions are opened
 

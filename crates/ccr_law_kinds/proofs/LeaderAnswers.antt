@@ -1,8 +1,8 @@
 -- What the leader answers is about what was asked, and so are the polls and the requests that it keeps.
-use Rattle.std.specs.Prelude.{filter, slice_get, not, nat_lt, ◌==◌, ◌-◌}
+use Rattle.std.specs.Prelude.{filter, slice_get, not, nat_lt, ◌==◌}
 use Rattle.std.specs.Str.{bytes_eq}
 use Rattle.std.specs.List.{AllByRecursion}
-use Rattle.std.proofs.Common.{◌≡◌, ℕ, if◌then◌else◌, Option, Some, None, List, [], ◌∷◌, ◌++◌, map, sym, subst}
+use Rattle.std.proofs.Common.{◌≡◌, ℕ, Option, Some, None, List, [], ◌∷◌, ◌++◌, map, sym, subst}
 use Rattle.ccr_wire.specs.Message.{Frame}
 use Rattle.ccr_wire.specs.declared.content.Content.{Content}
 use Rattle.ccr_wire.specs.declared.content.Content.TheVariants as contents
@@ -21,7 +21,7 @@ use Rattle.ccr_law_frames.specs.TrueFrames.{frame_of_poll, frame_of_kept}
 use Rattle.ccr_law_frames.proofs.Silent.{IsSilent, fail_copy-silent}
 use Rattle.ccr_law_kinds.specs.Purposes.{awaited}
 use Rattle.ccr_law_kinds.proofs.Fitting.{FitsOwn, nothing_said}
-use Rattle.ccr_law_base.proofs.Lists.{All-weaker, All-append, All-push, All-filter, All-map, All-at}
+use Rattle.ccr_law_base.proofs.Lists.{All-weaker, All-append, All-push, All-filter, All-map, All-at, All-without_poll}
 use Rattle.ccr_law_base.proofs.Cases.{on_if, on_guards}
 
 -- the messages, the polls and the kept requests under this name fit the work
@@ -70,13 +70,6 @@ read_fits uuid w l p copy (Some c) fits holds =
     on_if (RowFits uuid w) (has_to_wait l p c) _ _
     (λ waits. record { sent_fit = tt; polls_fit = All-push (λ (x : Poll). FitsOwn uuid w (frame_of_poll x)) l.polls p holds.polls_fit fits; kept_fit = holds.kept_fit })
     (λ now. answer_read_fits uuid w l p c l fits holds)
-
-All-without_poll : (P : Poll → Type 0) (follower : List ℕ) (at : ℕ) (polls : List Poll) → AllByRecursion P polls → AllByRecursion P (without_poll follower at polls)
-All-without_poll P follower at [] all = tt
-All-without_poll P follower at (p ∷ polls) all =
-    on_if (AllByRecursion P) (bytes_eq p.follower follower) (if at == 0 then polls else p ∷ without_poll follower (at - 1) polls) (p ∷ without_poll follower at polls)
-    (λ own. on_if (AllByRecursion P) (at == 0) polls (p ∷ without_poll follower (at - 1) polls) (λ first. all.1) (λ later. (all.0, All-without_poll P follower (at - 1) polls all.1)))
-    (λ other. (all.0, All-without_poll P follower at polls all.1))
 
 wake_found_fits : (uuid : List ℕ) (w : Work) (l : Leader) (follower : List ℕ) (at : ℕ) (p : Poll) (found : Option Copy) → FitsOwn uuid w (frame_of_poll p) → HoldsFit uuid w l
     → RowFits uuid w (wake_row l follower at (Some p) found)

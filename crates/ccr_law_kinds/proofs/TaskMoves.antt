@@ -15,10 +15,10 @@ use Rattle.ccr_model.specs.Followers.{Work, replicating}
 use Rattle.ccr_model.specs.FrameFacts.{next_request_of}
 use Rattle.ccr_law_frames.specs.Asking.{IsNoMore}
 use Rattle.ccr_law_frames.proofs.Finds.{find-none}
-use Rattle.ccr_law_frames.proofs.ReadLists.{answers_to, none-answers, All-changed_read, All-without_read, again}
+use Rattle.ccr_law_frames.proofs.ReadLists.{answers_to, none-answers, again}
 use Rattle.ccr_law_kinds.specs.Purposes.{Purpose, for_read, about, awaited, Agree}
 use Rattle.ccr_law_kinds.proofs.Fitting.{Moves, none_stays_none, nothing_awaited, moves_then, moves_not}
-use Rattle.ccr_law_base.proofs.Lists.{All-weaker, All-push, find_none}
+use Rattle.ccr_law_base.proofs.Lists.{All-weaker, All-push, find_none, All-changed_read, All-without_read}
 use Rattle.ccr_law_base.proofs.Cases.{on_if}
 
 -- no read was sent under this number

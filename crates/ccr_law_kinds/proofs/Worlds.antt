@@ -15,14 +15,14 @@ use Rattle.ccr_model.specs.Leaders.{Leader, KeptRequest, Poll}
 use Rattle.ccr_model.specs.Followers.{Follower, Work, uuid_of, new_follower}
 use Rattle.ccr_model.specs.World.{State, at_leader, for_follower, most_followers, with_new_follower}
 use Rattle.ccr_law_frames.specs.TrueFrames.{frame_of_poll, frame_of_kept}
-use Rattle.ccr_law_frames.proofs.Finds.{at-below, set-same, set-other, push-at}
+use Rattle.ccr_law_frames.proofs.Finds.{at-below, push-at}
 use Rattle.ccr_law_frames.proofs.Naming.{differs}
 use Rattle.ccr_law_kinds.specs.Purposes.{for_lease, for_read, about}
 use Rattle.ccr_law_kinds.proofs.Fitting.{FitsOwn, IsOwn, Moves, name_in, fits_on}
 use Rattle.ccr_law_kinds.proofs.RestoreMoves.{lease_moves}
 use Rattle.ccr_law_kinds.proofs.FollowerMoves.{RowMoves, AreReadsDrawn}
 use Rattle.ccr_law_kinds.proofs.LeaderAnswers.{AllFit, RowFits}
-use Rattle.ccr_law_base.proofs.Lists.{All-weaker, All-append, All-remove, some_equal}
+use Rattle.ccr_law_base.proofs.Lists.{All-weaker, All-append, All-remove, some_equal, set-other, set-same}
 
 -- the messages in flight, the polls and the kept requests under a name fit the work
 abbrev pub FitsIn : State → List ℕ → Work → Type 0

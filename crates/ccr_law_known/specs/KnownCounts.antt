@@ -18,7 +18,7 @@ abbrev pub IsReplyWithin : ℕ → Content → Type 0
 IsReplyWithin cut (contents.ReadReply from global ops) = global ≤ cut
 IsReplyWithin cut _ = Unit {0}
 
--- a task knows of no more, and has asked for no more
+-- a task knows of no more, and the count below which it has taken the numbers up is no greater
 pub record IsTaskWithin (cut : ℕ) (t : Task) : Type 0 where
   pub known : t.known ≤ cut
   pub next : t.next ≤ cut

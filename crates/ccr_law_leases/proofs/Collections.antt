@@ -14,8 +14,8 @@ use Rattle.ccr_model.specs.CopyFacts.{IsBehind}
 use Rattle.ccr_model.specs.LeaseHistory.{LeaseNote, retained, is_unbroken}
 use Rattle.ccr_model.specs.LeaseHistory as history
 use Rattle.ccr_law_leases.specs.TrueLeases.{AgreeWithNotes, AreBehind, AreTrueLeases}
-use Rattle.ccr_law_base.proofs.Lists.{All-weaker, All-filter, All-map, All-every, All-map_back, All-find, All-both}
-use Rattle.ccr_law_leases.proofs.Finding.{All-put, All-unfilter, the-found, found-any, any-put, any-new, any-filter, any-map}
+use Rattle.ccr_law_base.proofs.Lists.{All-weaker, All-filter, All-map, All-every, All-map_back, All-find, All-both, found-any}
+use Rattle.ccr_law_leases.proofs.Finding.{All-put, All-unfilter, the-found, any-put, any-new, any-filter, any-map}
 use Rattle.ccr_law_leases.proofs.Notes.{same_bytes, other_bytes, broken, no-answer-dropped, true-note}
 
 -- a lease is of an id

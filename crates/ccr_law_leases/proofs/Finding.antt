@@ -1,8 +1,9 @@
 -- Lemmas on what a test finds in a list, and on what a filter or one more element leaves.
-use Rattle.std.proofs.Common.{◌≡◌, ℕ, suc, zero, Bool, true, false, cond, ◌||◌, ◌&&◌, List, [], ◌∷◌, ◌++◌, map, take, drop, refl, ap, ◌∙◌}
-use Rattle.std.specs.Prelude.{Option, Some, None, is_some, find, filter}
+use Rattle.std.proofs.Common.{◌≡◌, ℕ, suc, zero, Bool, true, false, ◌||◌, ◌&&◌, List, [], ◌∷◌, ◌++◌, map, take, drop, refl, ap, ◌∙◌}
+use Rattle.std.specs.Prelude.{Option, Some, None, is_some, filter}
 use Rattle.std.specs.List.{AllByRecursion, list_any, list_all}
 use Rattle.ccr_law_base.proofs.Cases.{on_if}
+use Rattle.ccr_law_base.proofs.Tests.{or-more}
 
 pub or-left : (a b : Bool) → a ≡ true → (a || b) ≡ true
 or-left true b is = refl
@@ -11,10 +12,6 @@ or-left false b is = absurd cc
 pub or-right : (a b : Bool) → b ≡ true → (a || b) ≡ true
 or-right true b is = refl
 or-right false b is = is
-
-pub or-more : (a b c : Bool) → (b ≡ true → c ≡ true) → (a || b) ≡ true → (a || c) ≡ true
-or-more true b c more is = refl
-or-more false b c more is = more is
 
 pub or-other : (a b : Bool) → (a ≡ true → b ≡ true) → (a || b) ≡ true → b ≡ true
 or-other true b other is = other refl
@@ -44,11 +41,6 @@ All-pass test [] all = tt
 All-pass test (x ∷ xs) all = let both = and-true (test x) (list_all test xs) all in (both.0, All-pass test xs both.1)
 
 -- ---- what a test finds
-
--- something is found where one passes
-pub found-any : {X : Type 0} (test : X → Bool) (xs : List X) → is_some (find test xs) ≡ list_any test xs
-found-any test [] = refl
-found-any test (x ∷ xs) = elim (test x) as (λ b. is_some (cond b (Some x) (find test xs)) ≡ (b || list_any test xs)) [ true ↦ refl | false ↦ found-any test xs ]
 
 pub the-found : {X : Type 0} (found : Option X) → is_some found ≡ true → (x : X) × (found ≡ Some x)
 the-found None some = absurd cc

@@ -148,7 +148,7 @@ follower-search-true notes s f copy query sort (Some follower) are = search-true
 -- ---- deliveries
 
 -- no message to the leader, no note
-unheard : (s : Leader) (next : Copies) (place at copy : ℕ) (keep : Bool) (reply : Reply) → notes_of s next place None (events.Deliver at copy keep) reply ≡ []
+pub unheard : (s : Leader) (next : Copies) (place at copy : ℕ) (keep : Bool) (reply : Reply) → notes_of s next place None (events.Deliver at copy keep) reply ≡ []
 unheard s next place at copy keep (replies.Heard hearing) = refl
 unheard s next place at copy keep _ = refl
 

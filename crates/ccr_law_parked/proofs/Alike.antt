@@ -6,7 +6,7 @@ use Rattle.std.proofs.Common.{◌≡◌, ℕ, ◌==◌, ◌||◌, Bool, true, fa
 use Rattle.std.proofs.lemmas.List.Folds.{list_all-map}
 use Rattle.ccr_lease.specs.Leases.{Collection, lease_of}
 use Rattle.ccr_law_base.proofs.Cases.{on_if}
-use Rattle.ccr_law_base.proofs.Lists.{some_equal}
+use Rattle.ccr_law_base.proofs.Lists.{some_equal, found-any}
 use Rattle.ccr_model.specs.Copies.{Copy, Replica, Copies, replica_of, copy_of, all_copies, replaced, changed_replica, changed_at}
 use Rattle.ccr_model.specs.LeaderRows.{all_hold}
 
@@ -28,10 +28,6 @@ collections_of s = map {A = Copy} {B = Collection} (λ c. c.leases) (all_copies 
 
 -- ---- what is told of a copy by its number, and of all by their leases
 
-found_any : {X : Type 0} (test : X → Bool) (xs : List X) → is_some (find test xs) ≡ list_any test xs
-found_any test [] = refl
-found_any test (x ∷ xs) = elim (test x) as (λ b. is_some (cond b (Some x) (find test xs)) ≡ (b || list_any test xs)) [ true ↦ refl | false ↦ found_any test xs ]
-
 mapped_some : {X Y : Type 0} (f : X → Y) (o : Option X) → is_some (option_map f o) ≡ is_some o
 mapped_some f None = refl
 mapped_some f (Some x) = refl
@@ -44,7 +40,7 @@ any_number copy (r ∷ rs) = ap (λ b. (r.copy.number == copy) || b) (any_number
 pub there_by_numbers : (s : Copies) (copy : ℕ) → is_some (copy_of s copy) ≡ list_any (λ n. n == copy) (numbers_of s)
 there_by_numbers s copy =
     let rest : is_some (option_map {T = Replica} {U = Copy} (λ r. r.copy) (replica_of s copy)) ≡ is_among copy s.replicas =
-    mapped_some (λ r. r.copy) (replica_of s copy) ∙ found_any (λ r. r.copy.number == copy) s.replicas ∙ any_number copy s.replicas in
+    mapped_some (λ r. r.copy) (replica_of s copy) ∙ found-any (λ r. r.copy.number == copy) s.replicas ∙ any_number copy s.replicas in
     elim (s.primary.number == copy) as (λ b. is_some (if b then Some s.primary else option_map {T = Replica} {U = Copy} (λ r. r.copy) (replica_of s copy))
     ≡ (b || is_among copy s.replicas)) [ true ↦ refl | false ↦ rest ]
 
@@ -61,10 +57,6 @@ same_held s t same id = held_by_collections t id ∙ ap (list_all (λ (c : Colle
 pub stays_there : (s t : Copies) (copy : ℕ) → (list_any (λ n. n == copy) (numbers_of s) ≡ true → list_any (λ n. n == copy) (numbers_of t) ≡ true)
     → is_some (copy_of s copy) ≡ true → is_some (copy_of t copy) ≡ true
 stays_there s t copy numbers there = there_by_numbers t copy ∙ numbers (sym (there_by_numbers s copy) ∙ there)
-
-pub or_more : (a b c : Bool) → (b ≡ true → c ≡ true) → (a || b) ≡ true → (a || c) ≡ true
-or_more true b c goes_on passes = refl
-or_more false b c goes_on passes = goes_on passes
 
 -- ---- changes that leave what is read of each copy
 

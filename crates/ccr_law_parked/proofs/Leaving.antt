@@ -9,8 +9,9 @@ use Rattle.ccr_model.specs.Copies.{Copy, Replica, Copies, replica_of, taking, wi
 use Rattle.ccr_model.specs.CopyRows.{succeeded, unknown}
 use Rattle.ccr_model.specs.Leaders.{Poll}
 use Rattle.ccr_model.specs.LeaderRows.{filled, as_primary, missing_numbers}
+use Rattle.ccr_law_base.proofs.Tests.{or-more}
 use Rattle.ccr_law_parked.specs.Parked.{ArePollsThere}
-use Rattle.ccr_law_parked.proofs.Alike.{replica_numbers, is_among, or_more, stays_there}
+use Rattle.ccr_law_parked.proofs.Alike.{replica_numbers, is_among, stays_there}
 use Rattle.ccr_law_parked.proofs.Staying.{polls_pass}
 
 unequal_to_equal : (a b c : ℕ) → (a == b) ≡ true → (c == b) ≡ false → (a == c) ≡ false
@@ -40,14 +41,14 @@ others_stay k copy [] other found = found
 others_stay k copy (r ∷ rs) other found =
     on_if (λ (xs : List Replica). is_among k xs ≡ true) (r.copy.number == copy) rs (r ∷ without copy rs)
     (λ is. or_second (r.copy.number == k) (is_among k rs) (unequal_to_equal r.copy.number copy k is other) found)
-    (λ isnt. or_more (r.copy.number == k) (is_among k rs) (is_among k (without copy rs)) (others_stay k copy rs other) found)
+    (λ isnt. or-more (r.copy.number == k) (is_among k rs) (is_among k (without copy rs)) (others_stay k copy rs other) found)
 
 pub polls_after_leaving : (s : Copies) (copy : ℕ) (polls : List Poll) → ArePollsThere s polls
     → ArePollsThere (counted record s { replicas = without copy s.replicas }) (filter (λ p. not (p.copy == copy)) polls)
 polls_after_leaving s copy polls all =
     let next : Copies = counted record s { replicas = without copy s.replicas } in
     polls_pass s next (λ p. not (p.copy == copy)) polls
-    (λ p passes there. stays_there s next p.copy (or_more (s.primary.number == p.copy) (is_among p.copy s.replicas)
+    (λ p passes there. stays_there s next p.copy (or-more (s.primary.number == p.copy) (is_among p.copy s.replicas)
     (is_among p.copy (without copy s.replicas)) (others_stay p.copy copy s.replicas (false_by_not (p.copy == copy) passes))) there) all
 
 -- ---- promotions

@@ -1,8 +1,7 @@
 -- What waits at the leader waits rightly after each message that the leader takes, and after a poll is answered.
-use Rattle.std.specs.Prelude.{is_some, not, nat_lt, ◌==◌, if◌then◌else◌}
+use Rattle.std.specs.Prelude.{is_some, not, nat_lt}
 use Rattle.std.specs.Str.{bytes_eq}
-use Rattle.std.specs.List.{AllByRecursion}
-use Rattle.std.proofs.Common.{◌≡◌, ℕ, ◌-◌, true, Option, Some, None, List, [], ◌∷◌, refl, ap}
+use Rattle.std.proofs.Common.{◌≡◌, ℕ, true, Option, Some, None, List, refl, ap}
 use Rattle.ccr_lease.specs.declared.retention.Lease.{Lease}
 use Rattle.ccr_lease.specs.Leases.{Collection, lease_of}
 use Rattle.ccr_wire.specs.Message.{Frame}
@@ -10,7 +9,7 @@ use Rattle.ccr_wire.specs.declared.content.Content.{Content}
 use Rattle.ccr_wire.specs.declared.content.Content.TheVariants as contents
 use Rattle.ccr_journal.specs.declared.replies.Heard.{Heard as Hearing}
 use Rattle.ccr_law_base.proofs.Cases.{on_if, on_guards}
-use Rattle.ccr_law_base.proofs.Lists.{All-push}
+use Rattle.ccr_law_base.proofs.Lists.{All-push, All-without_poll}
 use Rattle.ccr_model.specs.Outcomes.{Outcome}
 use Rattle.ccr_model.specs.Copies.{Copy, copy_of, not_ready, has_lease}
 use Rattle.ccr_model.specs.Leaders.{Leader, Session, KeptRequest, Poll, without_poll, session_of}
@@ -35,13 +34,6 @@ read_right l p (Some c) is are =
     on_if IsRightToSettle (has_to_wait l p c) _ _
     (λ waits. right_if_heard _ _ _ (All-push (λ (p : Poll). is_some (copy_of l.copies p.copy) ≡ true) l.polls p are.polls (ap is_some is)))
     (λ now. read_answered IsRightToSettle l p c l (λ what sent. right_if_heard what l sent are.polls))
-
-All-without_poll : (P : Poll → Type 0) (follower : List ℕ) (at : ℕ) (polls : List Poll) → AllByRecursion P polls → AllByRecursion P (without_poll follower at polls)
-All-without_poll P follower at [] all = tt
-All-without_poll P follower at (p ∷ polls) all =
-    on_if (AllByRecursion P) (bytes_eq p.follower follower) (if at == 0 then polls else p ∷ without_poll follower (at - 1) polls) (p ∷ without_poll follower at polls)
-    (λ own. on_if (AllByRecursion P) (at == 0) polls (p ∷ without_poll follower (at - 1) polls) (λ first. all.1) (λ later. (all.0, All-without_poll P follower (at - 1) polls all.1)))
-    (λ other. (all.0, All-without_poll P follower at polls all.1))
 
 pub wake_parked : (l : Leader) (follower : List ℕ) (at : ℕ) (found : Option Poll) (c : Option Copy) → IsParkedRightly l → IsParkedRightly (wake_row l follower at found c).next
 unfolding wake_row

@@ -15,7 +15,8 @@ use Rattle.ccr_model.specs.Copies.{Copy, Replica, Copies, replica_of, has_lease,
 use Rattle.ccr_model.specs.CopyRows.{replicate_row, after_ack, ack_row, add_copy_row, flush_row, after_merge, merge_row}
 use Rattle.ccr_model.specs.Leaders.{Leader}
 use Rattle.ccr_model.specs.LeaderRows.{write_row, resync_row, expire_row}
-use Rattle.ccr_law_parked.proofs.Alike.{copies_in, is_among, same_replaced, same_changed, or_more, stays_there}
+use Rattle.ccr_law_base.proofs.Tests.{or-more}
+use Rattle.ccr_law_parked.proofs.Alike.{copies_in, is_among, same_replaced, same_changed, stays_there}
 use Rattle.ccr_law_parked.proofs.Staying.{LacksAndStays, stays_alike}
 
 abbrev pub Stays : Copies → Outcome Copies → Type 0
@@ -89,7 +90,7 @@ lacked_longer id (r ∷ rs) more fails =
 among_longer : (k : ℕ) (rs more : List Replica) → is_among k rs ≡ true → is_among k (rs ++ more) ≡ true
 among_longer k [] more found = absurd cc
 among_longer k (r ∷ rs) more found =
-    or_more (r.copy.number == k) (is_among k rs) (is_among k (rs ++ more)) (among_longer k rs more) found
+    or-more (r.copy.number == k) (is_among k rs) (is_among k (rs ++ more)) (among_longer k rs more) found
 
 pub add_copy_stays : (s : Copies) → Stays s (add_copy_row s)
 unfolding add_copy_row
@@ -101,7 +102,7 @@ add_copy_stays s =
       lacks = λ id lacks.
           and_fails_by_second (has_lease id s.primary) (each_holds id s.replicas) (each_holds id (s.replicas ++ new ∷ [])) (lacked_longer id s.replicas (new ∷ [])) lacks;
       there = λ k there. stays_there s next k
-          (or_more (s.primary.number == k) (is_among k s.replicas) (is_among k (s.replicas ++ new ∷ [])) (among_longer k s.replicas (new ∷ []))) there;
+          (or-more (s.primary.number == k) (is_among k s.replicas) (is_among k (s.replicas ++ new ∷ [])) (among_longer k s.replicas (new ∷ []))) there;
     })
 
 -- ---- leases less

@@ -1,4 +1,4 @@
--- What a follower has outstanding: a bootstrap always waits for something, and a task that was stopped has nothing left but its writes.
+-- What a follower has outstanding: a bootstrap always has a request that is sent or waits to be sent again, and a task that was stopped has nothing left but its writes.
 use Rattle.std.specs.Prelude.{◌≡◌, ℕ, ◌≤◌, Bool, true, false, List, [], length, slice_get, Some}
 use Rattle.std.specs.List.{AllByRecursion}
 use Rattle.ccr_journal.specs.declared.events.Event.{Event}

@@ -17,7 +17,7 @@ use Rattle.ccr_journal.specs.declared.replies.Reply.TheVariants as replies
 use Rattle.ccr_journal.specs.declared.replies.Heard.TheVariants as heard
 use Rattle.ccr_model.specs.Outcomes.{Outcome}
 use Rattle.ccr_model.specs.Requests.{Sending}
-use Rattle.ccr_model.specs.Copies.{Copy, Copies, copy_of, not_ready, has_lease, lacks_lease}
+use Rattle.ccr_model.specs.Copies.{Copy, copy_of, not_ready, has_lease, lacks_lease}
 use Rattle.ccr_model.specs.Leaders.{Leader, Poll, Session, session_of}
 use Rattle.ccr_model.specs.LeaderRows.{answering_kept, settling_requests}
 use Rattle.ccr_model.specs.LeaderFrames.{has_to_wait, read_row, with_new_lease, answer_or_keep, lease_add_row, lease_renew_row, lease_remove_row, session_open_row, chunk_row, receive_row, leader_receive}
@@ -28,6 +28,7 @@ use Rattle.ccr_model.specs.FollowerRows.{does, restore_heard, task_heard, work_h
 use Rattle.ccr_model.specs.LeaseHistory.{LeaseNote, notes_of, retained}
 use Rattle.ccr_model.specs.World.{State, at_leader, at_follower, goes_to_leader, follower_from}
 use Rattle.ccr_model.specs.Past.{Past, past_with, places_left, delivered_to_leader, sending_place, answer_after}
+use Rattle.ccr_law_leases.proofs.Keeping.{unheard}
 use Rattle.ccr_law_base.proofs.Cases.{on_if}
 use Rattle.ccr_law_base.proofs.Lists.{All-at, some_equal}
 use Rattle.ccr_law_retained.specs.Grounds.{HasGrounds}
@@ -225,10 +226,6 @@ is-there k (x ∷ followers) uuid f found =
 
 pub flipped : (xs ys : List ℕ) → bytes_eq xs ys ≡ true → bytes_eq ys xs ≡ true
 flipped xs ys is = (bytes_eq-Decides ys xs).1 (sym ((bytes_eq-Decides xs ys).0 is))
-
-pub unheard : (s : Leader) (next : Copies) (place at copy : ℕ) (keep : Bool) (reply : Reply) → notes_of s next place None (events.Deliver at copy keep) reply ≡ []
-unheard s next place at copy keep (replies.Heard hearing) = refl
-unheard s next place at copy keep _ = refl
 
 pub not-delivered : (p : Past) (at copy : ℕ) (keep : Bool) (m : Frame) → slice_get p.state.flight at ≡ Some m → goes_to_leader (kind_of_content m.content) ≡ false
     → delivered_to_leader p.state (events.Deliver at copy keep) ≡ None

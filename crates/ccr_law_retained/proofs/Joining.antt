@@ -18,7 +18,7 @@ use Rattle.ccr_model.specs.World.{State, with_new_follower, follow_row, same_nam
 use Rattle.ccr_model.specs.Past.{Past, FollowerPast, past_with, sending_place, follower_past_of}
 use Rattle.ccr_model.specs.Invariants.{renewal_of, is_missing}
 use Rattle.ccr_law_base.proofs.Cases.{on_guards}
-use Rattle.ccr_law_base.proofs.Lists.{All-weaker, All-append, All-append_front, All-at, some_equal}
+use Rattle.ccr_law_base.proofs.Lists.{All-weaker, All-append, All-append_front, All-at, some_equal, push-old}
 use Rattle.ccr_law_leases.proofs.Finding.{and-true}
 use Rattle.ccr_law_leases.proofs.Notes.{other_bytes}
 use Rattle.ccr_law_retained.specs.Grounds.{HasGrounds}
@@ -29,11 +29,6 @@ use Rattle.ccr_law_retained.proofs.Worlds.{early-asked}
 use Rattle.ccr_law_retained.proofs.Places.{setting-of, past-unmoved, refused-place}
 
 -- ---- the end of a list
-
-push-old : {X : Type 0} (xs : List X) (i : ℕ) (x y : X) → slice_get xs i ≡ Some x → slice_get (xs ++ y ∷ []) i ≡ Some x
-push-old [] i x y at = absurd cc
-push-old (z ∷ xs) zero x y at = at
-push-old (z ∷ xs) (suc i) x y at = push-old xs i x y at
 
 push-at : {X : Type 0} (xs : List X) (i : ℕ) (x y : X) → slice_get (xs ++ y ∷ []) i ≡ Some x → (slice_get xs i ≡ Some x) ⊎ ((x ≡ y) × (i ≡ length xs))
 push-at [] zero x y at = inr (sym (some_equal y x at), refl)

@@ -121,11 +121,6 @@ none-before test (x ∷ new) xs none = none-before test new xs (or-none (test x)
 
 -- ---- places of a list
 
-pub set-same : {X : Type 0} (xs : List X) (i : ℕ) (x y : X) → slice_get xs i ≡ Some x → slice_get (slice_set xs i y) i ≡ Some y
-set-same [] i x y at = absurd cc
-set-same (z ∷ xs) zero x y at = refl
-set-same (z ∷ xs) (suc i) x y at = set-same xs i x y at
-
 pub set-other : {X : Type 0} (xs : List X) (i j : ℕ) (y : X) → (i ≡ j → ⊥) → slice_get (slice_set xs i y) j ≡ slice_get xs j
 set-other [] zero j y other = refl
 set-other [] (suc i) j y other = refl

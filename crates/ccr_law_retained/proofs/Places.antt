@@ -25,11 +25,11 @@ use Rattle.ccr_model.specs.LeaseHistory.{LeaseNote, notes_of}
 use Rattle.ccr_model.specs.World.{State, at_leader, at_follower, for_follower, follower_of}
 use Rattle.ccr_model.specs.Past.{Past, FollowerPast, past_with, places_left, delivered_to_leader, sending_place, is_leasing, answer_after, follower_past_of}
 use Rattle.ccr_model.specs.FrameFacts.{IsTrueFrame, IsTruePoll, IsTrueContent, AsksAsRead, Reading, reading_in, reading_of, named_follower, next_request_of}
-use Rattle.ccr_law_base.proofs.Lists.{All-weaker, All-every, All-both}
+use Rattle.ccr_law_base.proofs.Lists.{All-weaker, All-every, All-both, set-same}
 use Rattle.ccr_law_retained.specs.Grounds.{AsksForOwn, IsMessageOf, HasMessages, Rises, HasGrounds}
 use Rattle.ccr_law_retained.specs.Retaining.{FollowerOk, FollowerOkOf, AreRetaining, IsRetaining, IsEarly}
 use Rattle.ccr_law_retained.specs.Moving.{MovesTo}
-use Rattle.ccr_law_retained.proofs.Lists.{set-same, set-other}
+use Rattle.ccr_law_retained.proofs.Lists.{set-other}
 use Rattle.ccr_law_retained.proofs.Growing.{ReadsFrom, Setting, to_uuid}
 use Rattle.ccr_law_retained.proofs.Own.{moved-ok}
 use Rattle.ccr_law_retained.proofs.Saying.{Says, KeptOwn, AsksTruly, Place}

@@ -15,9 +15,9 @@ use Rattle.ccr_model.specs.FollowerRows.{follower_receive_row}
 use Rattle.ccr_model.specs.LeaseHistory.{LeaseNote, notes_of}
 use Rattle.ccr_model.specs.World.{State, at_leader, at_follower, for_follower, goes_to_leader, follower_of, at_named_follower, taken_by_receiver, deliver_row, drop_row}
 use Rattle.ccr_model.specs.Past.{Past, past_with, places_left, delivered_to_leader, sending_place}
+use Rattle.ccr_law_base.proofs.Lists.{set-same}
 use Rattle.ccr_law_retained.specs.Grounds.{Rises, HasGrounds}
 use Rattle.ccr_law_retained.specs.Retaining.{FollowerOk, AreRetaining, IsRetaining}
-use Rattle.ccr_law_retained.proofs.Lists.{set-same}
 use Rattle.ccr_law_retained.proofs.Worlds.{left}
 use Rattle.ccr_law_retained.proofs.Places.{past-unmoved, refused-place, append-nil}
 use Rattle.ccr_law_retained.proofs.Deliveries.{kept_or_left, AfterDelivery, to-leader, to-follower, is-there, IsThere, flipped, not-delivered}

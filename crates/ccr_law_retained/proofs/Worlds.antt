@@ -14,10 +14,10 @@ use Rattle.ccr_model.specs.Restores.{leasing, Asked}
 use Rattle.ccr_model.specs.Followers.{Follower, Work, restoring, replicating, uuid_of}
 use Rattle.ccr_model.specs.LeaseHistory.{LeaseNote, retained}
 use Rattle.ccr_model.specs.Invariants.{renewal_of}
-use Rattle.ccr_law_base.proofs.Lists.{All-weaker, All-every, All-append, All-remove, All-at, some_equal}
+use Rattle.ccr_law_base.proofs.Lists.{All-weaker, All-every, All-append, All-remove, All-at, some_equal, set-same}
 use Rattle.ccr_law_retained.specs.Retaining.{Bound, asked, bound_of, RenewalLow, FollowerOk, FollowerOkOf, is_replicating, NoneReplicates, IsEarly, LeasesApart, AreRetaining}
 use Rattle.ccr_law_retained.specs.Moving.{is_plain, IsRenewal, IsRequest}
-use Rattle.ccr_law_retained.proofs.Lists.{sent-append, sent-map, sent-remove, set-same, set-other}
+use Rattle.ccr_law_retained.proofs.Lists.{sent-append, sent-map, sent-remove, set-other}
 use Rattle.ccr_law_retained.proofs.Growing.{IsSaid, retained-low, said-renewal, Setting, to_uuid, grows, fewer}
 use Rattle.ccr_law_retained.proofs.Saying.{Says}
 

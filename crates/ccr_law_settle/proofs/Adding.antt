@@ -19,6 +19,7 @@ use Rattle.ccr_model.specs.World.{State}
 use Rattle.ccr_model.specs.Step.{step}
 use Rattle.ccr_model.specs.Settling.{may_be_answered}
 use Rattle.ccr_law_base.proofs.Cases.{on_if}
+use Rattle.ccr_law_base.proofs.Lists.{found-any}
 use Rattle.ccr_law_settle.specs.Measure.{total, passing, over_followers, is_idle_content, weight_of_frame, weight_of_work, rank_of, underway_of, lacking_of, IsLower}
 use Rattle.ccr_law_settle.proofs.Totals.{le_itself, total_append}
 use Rattle.ccr_law_settle.proofs.Flights.{ranks_more, idle_more, works_fewer}
@@ -28,7 +29,7 @@ use Rattle.ccr_law_settle.proofs.Taken.{total_remove, any_remove, ranks_left}
 use Rattle.ccr_law_settle.proofs.Delivering.{taken}
 use Rattle.ccr_law_settle.proofs.Answering.{with_these, any_step, answered_lower, delivered_by, same_open}
 use Rattle.ccr_law_leases.proofs.Collections.{is_of, there-put}
-use Rattle.ccr_law_leases.proofs.Finding.{found-any, any-put}
+use Rattle.ccr_law_leases.proofs.Finding.{any-put}
 
 -- ---- one lease more
 

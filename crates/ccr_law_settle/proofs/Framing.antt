@@ -14,10 +14,9 @@ use Rattle.ccr_model.specs.Followers.{Follower, Work, restoring, replicating, uu
 use Rattle.ccr_model.specs.World.{follower_of}
 use Rattle.ccr_model.specs.FrameFacts.{Fetching, fetching_at, next_request_of}
 use Rattle.ccr_model.specs.Past.{Past}
-use Rattle.ccr_law_base.proofs.Lists.{All-weaker, All-at, some_equal}
+use Rattle.ccr_law_base.proofs.Lists.{All-weaker, All-at, some_equal, found-any}
 use Rattle.ccr_law_base.proofs.Tests.{same_turned}
 use Rattle.ccr_law_core.specs.Cores.{IsCore}
-use Rattle.ccr_law_leases.proofs.Finding.{found-any}
 use Rattle.ccr_law_frames.specs.Asking.{Part, part_of, part_in, ReadsApart, AsksApart}
 use Rattle.ccr_law_frames.specs.Saying.{IsGoodStage, IsGoodWork}
 use Rattle.ccr_law_frames.specs.TrueFrames.{IsOfFollower, setting, scene_of, HasTrueFrames}

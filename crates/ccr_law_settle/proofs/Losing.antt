@@ -19,6 +19,8 @@ use Rattle.ccr_law_settle.specs.Measure.{total, passing, over_followers, opens_c
 use Rattle.ccr_law_settle.specs.Within.{AreStageApart, AreRequestsApart}
 use Rattle.ccr_law_settle.proofs.Totals.{le_itself, over_set_same, over_set_less}
 use Rattle.ccr_law_settle.proofs.CopyRows.{not_true}
+use Rattle.ccr_law_settle.proofs.Taken.{choice_lower}
+use Rattle.ccr_law_base.proofs.Tests.{or-more}
 use Rattle.ccr_law_settle.proofs.Joins.{append_none}
 use Rattle.ccr_law_settle.proofs.LostRequests.{lost_lighter, read_weight, with_progress, sent_read_loses, total_changed_read, with_later, sent_ask_loses, length_changed_ask, lost_fewer_sent}
 
@@ -86,12 +88,6 @@ gone_fewer (m ∷ flight) f fetch request until is =
     either true false false later rest here there is = there is
     either false new old later rest here there is = there is
 
-rank_lower : (a b : Bool) → (a ≡ true → b ≡ true) → (if a then 3 else 1) ≤ (if b then 3 else 1)
-rank_lower true true step = omega arith
-rank_lower false true step = omega arith
-rank_lower false false step = omega arith
-rank_lower true false step = let e : false ≡ true = step refl in cc
-
 pub two_at_most : (b : Bool) → 2 ≤ (if b then 4 else 2)
 two_at_most true = omega arith
 two_at_most false = omega arith
@@ -120,10 +116,6 @@ stage_lighter s f own r at request until apart found nothing = by r.stage apart 
         let sent : (is_sent a.progress ≡ true) × (a.request ≡ request) = sent_one a at request found in
         lost_lighter (may a.request) own.now until a.progress sent.0 (subst (λ n. may n ≡ false) (sym sent.1) nothing)
 
-    either : (a new old : Bool) → (new ≡ true → old ≡ true) → (a || new) ≡ true → (a || old) ≡ true
-    either true new old step is = refl
-    either false new old step is = step is
-
     by : (stage : Stage) → AreStageApart stage → slice_get (sent_requests stage) at ≡ Some request
         → (weight_of_stage may own.now (lost_in request (waiting until) stage) < weight_of_stage may own.now stage)
         × (rank_of_stage s.flight s.leader.sessions f (lost_in request (waiting until) stage) ≤ rank_of_stage s.flight s.leader.sessions f stage)
@@ -132,8 +124,8 @@ stage_lighter s f own r at request until apart found nothing = by r.stage apart 
     by (opening a) apart found = (asked a found, rw (no_rank_for_waiting s.flight s.leader.sessions f a until) (two_at_most (is_opened_in_vain s.flight s.leader.sessions f a)), le_itself 0)
     by (fetching fetch) apart found = (
       sent_ask_loses may own.now until fetch.asks at request apart found nothing,
-      rank_lower (is_in_vain s.flight s.leader.sessions f (record fetch { asks = changed_ask request (with_later (waiting until)) fetch.asks })) (is_in_vain s.flight s.leader.sessions f fetch)
-          (either (is_none (session_of s.leader.sessions fetch.session)) _ _ (gone_fewer s.flight f fetch request until)),
+      choice_lower (is_in_vain s.flight s.leader.sessions f (record fetch { asks = changed_ask request (with_later (waiting until)) fetch.asks })) (is_in_vain s.flight s.leader.sessions f fetch) 1 3 (omega arith)
+          (or-more (is_none (session_of s.leader.sessions fetch.session)) _ _ (gone_fewer s.flight f fetch request until)),
       (let e : length (changed_ask request (with_later (waiting until)) fetch.asks) ≡ length fetch.asks = length_changed_ask request (with_later (waiting until)) fetch.asks in omega arith),
     )
 

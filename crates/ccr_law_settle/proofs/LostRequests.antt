@@ -6,7 +6,7 @@ use Rattle.ccr_model.specs.Requests.{Progress, on_its_way, waiting, held_back, i
 use Rattle.ccr_model.specs.Tasks.{Task, Read, changed_read, by_request, sent_reads}
 use Rattle.ccr_model.specs.Restores.{ChunkAsked, changed_ask}
 use Rattle.ccr_law_base.proofs.Cases.{on_if}
-use Rattle.ccr_law_base.proofs.Lists.{All-weaker, All-both, All-filter, All-filter_test, All-at}
+use Rattle.ccr_law_base.proofs.Lists.{All-weaker, All-both, All-filter, All-filter_test, All-at, All-by_request}
 use Rattle.ccr_law_base.proofs.Tests.{itself, other_turned}
 use Rattle.ccr_law_settle.specs.Measure.{total, weight_of_progress}
 use Rattle.ccr_law_settle.specs.Within.{AreReadsApart, AreAsksApart}
@@ -49,12 +49,6 @@ each_loses may now until (x ∷ reads) apart = (
       reads
       (All-both (λ (y : Read). (y.request == x.request) ≡ false) (LosesRead may now until reads) reads apart.0 (each_loses may now until reads apart.1)),
 )
-
-All-by_request : (P : Read → Type 0) (r : Read) (reads : List Read) → P r → AllByRecursion P reads → AllByRecursion P (by_request r reads)
-All-by_request P r [] one all = (one, tt)
-All-by_request P r (x ∷ reads) one all =
-    on_if (AllByRecursion P) (nat_lt r.request x.request) (r ∷ x ∷ reads) (x ∷ by_request r reads)
-    (λ is. (one, all)) (λ isnt. (all.0, All-by_request P r reads one all.1))
 
 pub All-in_order : (P : Read → Type 0) (reads acc : List Read) → AllByRecursion P acc → AllByRecursion P reads
     → AllByRecursion P (fold {A = Read} {B = List Read} (λ rest r. by_request r rest) acc reads)

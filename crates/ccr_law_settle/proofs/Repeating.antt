@@ -12,7 +12,7 @@ use Rattle.ccr_model.specs.Leaders.{Session}
 use Rattle.ccr_model.specs.Followers.{uuid_of}
 use Rattle.ccr_law_base.proofs.Cases.{on_if}
 use Rattle.ccr_law_base.proofs.Lists.{All-weaker, All-both, some_equal}
-use Rattle.ccr_law_base.proofs.Tests.{itself, other_turned}
+use Rattle.ccr_law_base.proofs.Tests.{itself, other_turned, or-more}
 use Rattle.ccr_law_settle.specs.Measure.{total, is_gone, is_told_gone, is_idle_content, weight_of_frame}
 use Rattle.ccr_law_settle.specs.Within.{AreAsksApart}
 use Rattle.ccr_law_settle.proofs.Totals.{total_append}
@@ -94,16 +94,12 @@ any_without number request (x ∷ asks) any =
     on_if (λ (xs : List ChunkAsked). list_any (answered_by request) xs ≡ true → (answered_by request x || list_any (answered_by request) asks) ≡ true)
     (x.request == number) asks (x ∷ without_ask number asks)
     (λ here some. late (answered_by request x) (list_any (answered_by request) asks) some)
-    (λ past some. step (answered_by request x) (list_any (answered_by request) (without_ask number asks)) (list_any (answered_by request) asks) (any_without number request asks) some)
+    (λ past some. or-more (answered_by request x) (list_any (answered_by request) (without_ask number asks)) (list_any (answered_by request) asks) (any_without number request asks) some)
     any
   where
     late : (a b : Bool) → b ≡ true → (a || b) ≡ true
     late true b is = refl
     late false b is = is
-
-    step : (a new old : Bool) → (new ≡ true → old ≡ true) → (a || new) ≡ true → (a || old) ≡ true
-    step true new old more is = refl
-    step false new old more is = more is
 
 -- no message with the follower's name has this number
 abbrev pub AreBelow : List Frame → ℕ → ℕ → Type 0

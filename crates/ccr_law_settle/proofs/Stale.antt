@@ -17,7 +17,7 @@ use Rattle.ccr_model.specs.World.{State, goes_to_leader, at_leader, at_follower,
 use Rattle.ccr_model.specs.Step.{step}
 use Rattle.ccr_model.specs.Settling.{may_be_answered}
 use Rattle.ccr_law_base.proofs.Cases.{on_if}
-use Rattle.ccr_law_leases.proofs.Finding.{found-any}
+use Rattle.ccr_law_base.proofs.Lists.{found-any}
 use Rattle.ccr_law_settle.specs.Measure.{total, passing, over_followers, is_idle_content, weight_of_frame, weight_of_progress, weight_of_stage, weight_of_work, rank_of, follower_lacks, old_peeks, lacking_of, IsLower}
 use Rattle.ccr_law_settle.specs.Within.{stage_waits_for, waits_for, IsAwaitedByNone}
 use Rattle.ccr_law_settle.proofs.Totals.{le_itself, over_set_same}

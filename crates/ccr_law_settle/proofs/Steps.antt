@@ -17,9 +17,8 @@ use Rattle.ccr_model.specs.World.{State, goes_to_leader, at_follower, follower_o
 use Rattle.ccr_model.specs.Step.{step}
 use Rattle.ccr_model.specs.FrameFacts.{next_request_of}
 use Rattle.ccr_law_base.proofs.Cases.{on_if}
-use Rattle.ccr_law_base.proofs.Lists.{some_equal}
+use Rattle.ccr_law_base.proofs.Lists.{some_equal, found-any}
 use Rattle.ccr_law_base.proofs.Tests.{same_turned}
-use Rattle.ccr_law_leases.proofs.Finding.{found-any}
 use Rattle.ccr_law_settle.specs.Measure.{is_gone, is_told_gone, rank_of, IsLower}
 use Rattle.ccr_law_settle.specs.Within.{IsFresh, is_added, opens_next}
 use Rattle.ccr_law_settle.proofs.Repeating.{AreBelow}

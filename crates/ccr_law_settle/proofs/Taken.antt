@@ -9,6 +9,7 @@ use Rattle.ccr_model.specs.Restores.{ChunkAsked, Stage, leasing, opening, fetchi
 use Rattle.ccr_model.specs.Leaders.{Session, session_of}
 use Rattle.ccr_model.specs.Followers.{Follower, Work, restoring, replicating, uuid_of}
 use Rattle.ccr_law_base.proofs.Lists.{some_equal}
+use Rattle.ccr_law_base.proofs.Tests.{or-more}
 use Rattle.ccr_law_settle.specs.Measure.{total, over_followers, opens_closed, is_gone, is_opened_in_vain, is_told_gone, is_in_vain, rank_of_stage, rank_of}
 use Rattle.ccr_law_settle.proofs.Totals.{over_fewer}
 
@@ -47,11 +48,7 @@ any_left test (y ∷ xs) zero any = late (test y) (list_any test xs) (subst (λ 
     late : (a b : Bool) → b ≡ true → (a || b) ≡ true
     late true b is = refl
     late false b is = is
-any_left test (y ∷ xs) (suc n) any = either (test y) (list_any test (remove xs n)) (list_any test xs) (any_left test xs n) any
-  where
-    either : (a new old : Bool) → (new ≡ true → old ≡ true) → (a || new) ≡ true → (a || old) ≡ true
-    either true new old step is = refl
-    either false new old step is = step is
+any_left test (y ∷ xs) (suc n) any = or-more (test y) (list_any test (remove xs n)) (list_any test xs) (any_left test xs n) any
 
 -- ---- ranks
 
@@ -65,16 +62,12 @@ rank_left : (flight : List Frame) (n : ℕ) (sessions : List Session) (f : ℕ) 
 rank_left flight n sessions f (replicating t) = omega arith
 rank_left flight n sessions f (restoring r) = by r.stage
   where
-    either : (a new old : Bool) → (new ≡ true → old ≡ true) → (a || new) ≡ true → (a || old) ≡ true
-    either true new old step is = refl
-    either false new old step is = step is
-
     by : (stage : Stage) → rank_of_stage (remove flight n) sessions f stage ≤ rank_of_stage flight sessions f stage
     by (leasing a) = omega arith
     by (opening a) = choice_lower (is_opened_in_vain (remove flight n) sessions f a) (is_opened_in_vain flight sessions f a) 2 4 (omega arith)
         (any_left (λ (m : Frame). bytes_eq m.follower (uuid_of f) && answers m a && opens_closed sessions m.content) flight n)
     by (fetching fetch) = choice_lower (is_in_vain (remove flight n) sessions f fetch) (is_in_vain flight sessions f fetch) 1 3 (omega arith)
-        (either (is_none (session_of sessions fetch.session)) (is_told_gone (remove flight n) f fetch) (is_told_gone flight f fetch)
+        (or-more (is_none (session_of sessions fetch.session)) (is_told_gone (remove flight n) f fetch) (is_told_gone flight f fetch)
         (any_left (λ (m : Frame). bytes_eq m.follower (uuid_of f) && is_gone m.content && list_any (λ (a : ChunkAsked). (m.request == a.request) && is_sent a.progress) fetch.asks) flight n))
 
 pub ranks_left : (flight : List Frame) (n : ℕ) (sessions : List Session) (followers : List Follower)

@@ -14,6 +14,7 @@ use Rattle.ccr_model.specs.World.{State, at_follower}
 use Rattle.ccr_model.specs.FrameFacts.{next_request_of}
 use Rattle.ccr_model.specs.Past.{Past}
 use Rattle.ccr_law_base.proofs.Lists.{All-find}
+use Rattle.ccr_law_base.proofs.Tests.{or-more}
 use Rattle.ccr_law_core.specs.Cores.{IsCore}
 use Rattle.ccr_law_frames.specs.TrueFrames.{HasTrueFrames}
 use Rattle.ccr_law_settle.specs.Measure.{opens_closed, is_opened_in_vain, is_told_gone, is_in_vain, copies_lack, IsLower}
@@ -101,10 +102,6 @@ some_fetching : (vain : Bool) → 0 < (if vain then 3 else 1)
 some_fetching true = omega arith
 some_fetching false = omega arith
 
-either : (a new old : Bool) → (new ≡ true → old ≡ true) → (a || new) ≡ true → (a || old) ≡ true
-either true new old step is = refl
-either false new old step is = step is
-
 plus_less : (copies new old : ℕ) → new < old → copies + new < copies + old
 plus_less copies new old less = omega arith
 
@@ -115,7 +112,7 @@ came_lower s at f base r old a bytes below first there =
     done_lower s at f own (chunk_came asking old a bytes) (record r { retry = 0; next_request = more.next_request }) fetch there more.is (some_fetching (is_in_vain s.flight s.leader.sessions f old))
     (lacking_lower s at f own _ (chunk_came asking old a bytes).sent there more.plain
     (choice_lower (is_in_vain s.flight s.leader.sessions f fetch) (is_in_vain s.flight s.leader.sessions f old) 1 3 (omega arith)
-    (either (is_none (session_of s.leader.sessions old.session)) (is_told_gone s.flight f fetch) (is_told_gone s.flight f old)
+    (or-more (is_none (session_of s.leader.sessions old.session)) (is_told_gone s.flight f fetch) (is_told_gone s.flight f old)
     (told_less s.flight f r.next_request fetch old below (λ n lt any. any_without a.request n old.asks (more.before n lt any)))))
     (plus_less (copies_lack s.leader.copies.primary.seen.count base.copies) _ _
     (one_less_lacking (length (places_of r.chunk_size old.sizes)) old.asked more.asked _ (length (without_ask a.request old.asks)) (length more.asks) (length old.asks)

@@ -17,11 +17,10 @@ use Rattle.ccr_model.specs.Settling.{may_be_answered, may_wake, for_named}
 use Rattle.ccr_model.specs.Past.{Past}
 use Rattle.ccr_model.specs.FrameFacts.{Reading, reading_in, reading_of, IsTruePoll, AsksAsRead}
 use Rattle.ccr_law_base.proofs.Cases.{on_if}
-use Rattle.ccr_law_base.proofs.Lists.{All-weaker, All-both, All-filter, All-find, All-map_back, some_equal}
+use Rattle.ccr_law_base.proofs.Lists.{All-weaker, All-both, All-filter, All-find, All-map_back, some_equal, All-places}
 use Rattle.ccr_law_leases.proofs.Finding.{All-unfilter, All-pass, and-true}
 use Rattle.ccr_law_kinds.specs.Purposes.{for_lease, for_read, Agree, awaited}
 use Rattle.ccr_law_parked.specs.Parked.{ArePollsThere}
-use Rattle.ccr_law_settle_left.proofs.ActiveReads.{All-places}
 
 -- ---- polls wait for more than there is
 

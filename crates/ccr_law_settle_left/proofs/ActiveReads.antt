@@ -2,7 +2,7 @@
 use Rattle.std.specs.List.{AllByRecursion, fold}
 use Rattle.std.specs.Prelude.{slice_get, find, filter, filter_map}
 use Rattle.std.specs.Option.{option_map, option_map_or}
-use Rattle.std.proofs.Common.{◌≡◌, ℕ, zero, suc, ◌≤◌, ◌==◌, ◌&&◌, not, nat_lt, Bool, true, false, if◌then◌else◌, Option, Some, None, List, [], ◌∷◌, ◌++◌, map, length, refl, ◌∙◌, subst, arith}
+use Rattle.std.proofs.Common.{◌≡◌, ℕ, ◌≤◌, ◌==◌, ◌&&◌, not, nat_lt, Bool, true, false, if◌then◌else◌, Option, Some, None, List, [], ◌∷◌, ◌++◌, map, length, refl, ◌∙◌, subst, arith}
 use Rattle.std.proofs.lemmas.Bool.Decides.{nat_tests}
 use Rattle.ccr_journal.specs.Params.{AreInRange}
 use Rattle.ccr_model.specs.Requests.{Progress, on_its_way, waiting, held_back, is_sent}
@@ -11,7 +11,7 @@ use Rattle.ccr_model.specs.Followers.{Follower, Work, replicating, uuid_of}
 use Rattle.ccr_model.specs.World.{State}
 use Rattle.ccr_model.specs.Settling.{time_of, least_of, waits_until, request_at, may_be_answered, may_lose}
 use Rattle.ccr_law_base.proofs.Cases.{on_if}
-use Rattle.ccr_law_base.proofs.Lists.{All-weaker, All-both, All-append_front, All-map_back}
+use Rattle.ccr_law_base.proofs.Lists.{All-weaker, All-both, All-append_front, All-map_back, All-places}
 use Rattle.ccr_law_leases.proofs.Finding.{All-unfilter}
 use Rattle.ccr_law_frames.specs.Asking.{ReadsApart}
 use Rattle.ccr_law_frames.proofs.Finds.{find-skips, find-takes}
@@ -70,10 +70,6 @@ each_found (r ∷ reads) apart sent = (
 )
 
 -- ---- each place
-
-pub All-places : {X : Type 0} (P : X → Type 0) (xs : List X) → ((n : ℕ) (x : X) → slice_get xs n ≡ Some x → P x) → AllByRecursion P xs
-All-places P [] each = tt
-All-places P (x ∷ xs) each = (each zero x refl, All-places P xs (λ n y at. each (suc n) y at))
 
 -- what holds of each read in the order of the requests holds of each read
 by_request_back : (P : Read → Type 0) (r : Read) (rs : List Read) → AllByRecursion P (by_request r rs) → P r × AllByRecursion P rs

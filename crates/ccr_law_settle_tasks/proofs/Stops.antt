@@ -10,8 +10,7 @@ use Rattle.ccr_model.specs.Followers.{Follower, Work, replicating, uuid_of}
 use Rattle.ccr_model.specs.FollowerRows.{with_task}
 use Rattle.ccr_model.specs.World.{State}
 use Rattle.ccr_model.specs.Settling.{may_be_answered}
-use Rattle.ccr_law_base.proofs.Lists.{some_equal}
-use Rattle.ccr_law_frames.proofs.Finds.{set-same, set-other}
+use Rattle.ccr_law_base.proofs.Lists.{some_equal, set-other, set-same}
 use Rattle.ccr_law_settle.specs.Measure.{total, passing, over_followers, is_idle_content, weight_of_frame, weight_of_work, rank_of, task_lacks, work_lacks, follower_lacks, old_peeks, IsLower}
 use Rattle.ccr_law_settle.proofs.Totals.{le_itself, over_set_same}
 use Rattle.ccr_law_settle.proofs.Joins.{append_none}

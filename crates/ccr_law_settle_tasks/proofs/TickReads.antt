@@ -8,13 +8,13 @@ use Rattle.ccr_model.specs.Requests.{Progress, is_due, Sending}
 use Rattle.ccr_model.specs.Tasks.{Task, Read, changed_read, is_held, sent_again, all_sent_again, by_request, in_order_of_request}
 use Rattle.ccr_model.specs.Leaders.{Session}
 use Rattle.ccr_law_base.proofs.Cases.{on_if}
-use Rattle.ccr_law_base.proofs.Lists.{some_equal}
+use Rattle.ccr_law_base.proofs.Lists.{some_equal, All-changed_read}
 use Rattle.ccr_law_frames.proofs.ReadLists.{has_request, again, AreListed, rest-listed}
 use Rattle.ccr_law_settle.specs.Measure.{total, is_idle_content, weight_of_frame}
 use Rattle.ccr_law_settle.proofs.Flights.{IsPlain}
 use Rattle.ccr_law_settle.proofs.LostRequests.{read_weight, total_changed_read}
 use Rattle.ccr_law_settle.proofs.Due.{due_weighs}
-use Rattle.ccr_law_tasks.proofs.ReadLists.{length-changed, all-changed}
+use Rattle.ccr_law_tasks.proofs.ReadLists.{length-changed}
 
 -- ---- lists of reads
 
@@ -95,7 +95,7 @@ repeats_then sessions may now r due t first is_due_now comes rest = record {
   busy = (refl, rest.busy);
   as_many = rest.as_many ∙ length-changed r.request (again t.next_request) t.reads;
   same = λ amount. rest.same amount ∙ total_changed_read (λ (x : Read). amount x.from x.to) r.request (again t.next_request) (λ x. refl) t.reads;
-  held = λ none. rest.held (all-changed (λ (x : Read). is_held x ≡ false) r.request (again t.next_request) (λ x isnt. refl) t.reads none);
+  held = λ none. rest.held (All-changed_read (λ (x : Read). is_held x ≡ false) r.request (again t.next_request) (λ x isnt. refl) t.reads none);
   weight = one_weight r due _ _ _ _ _ _ rest.weight (total_at_first (read_weight may now) (again t.next_request) r t.reads first)
       (rw comes refl) (due_weighs (may r.request) now r.progress is_due_now);
 }

@@ -11,7 +11,7 @@ use Rattle.ccr_model.specs.Tasks.{Read, read_sent}
 use Rattle.ccr_model.specs.Restores.{Restore, Stage, leasing, opening, fetching, Asked, Fetch, ChunkAsked, answers, ask_sent}
 use Rattle.ccr_model.specs.Followers.{Follower, Work, restoring, replicating}
 use Rattle.ccr_model.specs.World.{State, goes_to_leader, follower_of}
-use Rattle.ccr_law_leases.proofs.Finding.{found-any}
+use Rattle.ccr_law_base.proofs.Lists.{found-any}
 use Rattle.ccr_law_kinds.specs.Purposes.{for_lease, for_session, for_part, for_read, about, awaited_in, awaited, Agree}
 use Rattle.ccr_law_settle.specs.Lowering.{Lowers, IsInFlight, DeliveryLowers, AskingLowers}
 use Rattle.ccr_law_settle.specs.Measure.{is_gone}

@@ -14,10 +14,11 @@ use Rattle.ccr_model.specs.Past.{Line, WrittenBatch}
 use Rattle.ccr_model.specs.FrameFacts.{IsCommitted}
 use Rattle.ccr_model.specs.TaskFacts.{times_at, times_in, is_in_read}
 use Rattle.ccr_law_base.proofs.Cases.{on_if}
+use Rattle.ccr_law_base.proofs.Lists.{All-append, All-append_back, All-append_front, All-filter, All-find, All-weaker, All-without_read}
 use Rattle.ccr_law_tasks.specs.GoodTask.{IsGoodRead, HasRoom, sent_count, largest_committed, IsSoundTask, IsTrueReply}
-use Rattle.ccr_law_tasks.proofs.Sums.{one_if, all-append, all-front, all-rest, all-more, all-filter, all-find, sum-filter-le, length-filter-le}
+use Rattle.ccr_law_tasks.proofs.Sums.{one_if, sum-filter-le, length-filter-le}
 use Rattle.ccr_law_tasks.proofs.Operations.{one_in, bytes-sum, times-with_ops, length-with_ops, bytes-with_ops, all-with_ops, run-times, run-below, run-front, run-end}
-use Rattle.ccr_law_tasks.proofs.ReadLists.{IsPlaced, placed, length-changed, length-without, all-without, count-placed-changed, count-placed-without}
+use Rattle.ccr_law_tasks.proofs.ReadLists.{IsPlaced, placed, length-changed, length-without, count-placed-changed, count-placed-without}
 use Rattle.ccr_law_tasks.proofs.Lines.{size-committed}
 
 -- ---- the reads after a reply
@@ -37,8 +38,8 @@ range-split a b c n low high = grind (arith, nat_tests)
 all-placed-changed : (P : Read → Type 0) (r : Read) (f : Read → Read) (reads : List Read) → IsPlaced r reads → P (f r) → AllByRecursion P reads → AllByRecursion P (changed_read r.request f reads)
 all-placed-changed P r f reads at new a =
     let whole : AllByRecursion P (at.before ++ r ∷ at.after) = subst (λ (rs : List Read). AllByRecursion P rs) at.is a in
-    let rest : AllByRecursion P (r ∷ at.after) = all-rest P at.before (r ∷ at.after) whole in
-    subst (λ (rs : List Read). AllByRecursion P rs) (sym (at.changed f)) (all-append P at.before (f r ∷ at.after) (all-front P at.before (r ∷ at.after) whole) (new, rest.1))
+    let rest : AllByRecursion P (r ∷ at.after) = All-append_back P at.before (r ∷ at.after) whole in
+    subst (λ (rs : List Read). AllByRecursion P rs) (sym (at.changed f)) (All-append P at.before (f r ∷ at.after) (All-append_front P at.before (r ∷ at.after) whole) (new, rest.1))
 
 reads-answered : (most begun_at next_request next : ℕ) (r : Read) (rest : ℕ) (reads : List Read) → IsPlaced r reads → is_sent r.progress ≡ true
     → IsGoodRead most begun_at next_request next r → AllByRecursion (IsGoodRead most begun_at next_request next) reads
@@ -71,7 +72,7 @@ reads-answered most begun_at next_request next r rest reads at is_on_way good al
     let none : r.to ≤ rest = ltb-false _ _ isnt in
     let end : rest ≡ r.to = omega arith in
     record {
-      all = all-without (IsGoodRead most begun_at next_request next) r.request reads all;
+      all = All-without_read (IsGoodRead most begun_at next_request next) r.request reads all;
       apart = λ k. let gone = count-placed-without (λ r. r.request == k) r reads at in omega arith;
       few = length-without r.request reads;
       numbers = λ n.
@@ -124,7 +125,7 @@ ops-kept P from to next ops run all low false isnt =
     record {
       count = length-filter-le (λ op. nat_lt op.seq to) ops;
       bytes = omega arith;
-      all = all-filter P (λ op. nat_lt op.seq to) ops all;
+      all = All-filter P (λ op. nat_lt op.seq to) ops all;
       up = omega arith;
       numbers = λ n.
           let times : times_in n front ≡ one_in from (from + length front) n = run-times n from front (run-front to from ops run) in
@@ -160,7 +161,7 @@ reply-sound line begun_at written t r request from global ops true_reply s =
     let most : ℕ = t.params.max_read_request_operation_count in
     let begins : from ≡ r.from = true_reply.brings.begins in
     let run : IsRun r.from ops = subst (λ (n : ℕ). IsRun n ops) begins true_reply.run in
-    let found = all-find (IsGoodRead most begun_at t.next_request t.next) (λ r. (r.request == request) && is_sent r.progress) t.reads r s.reads.all true_reply.sent in
+    let found = All-find (IsGoodRead most begun_at t.next_request t.next) (λ r. (r.request == request) && is_sent r.progress) t.reads r s.reads.all true_reply.sent in
     let good : IsGoodRead most begun_at t.next_request t.next r = found.0 in
     let on_way : is_sent r.progress ≡ true = (and_parts (r.request == request) (is_sent r.progress) found.1).1 in
     let at : IsPlaced r t.reads = placed request t.reads r s.reads.apart true_reply.sent in
@@ -195,7 +196,7 @@ reply-sound line begun_at written t r request from global ops true_reply s =
       params = s.params;
       begun = omega arith;
       reads = record {
-        all = all-more (IsGoodRead most begun_at t.next_request t.next) (IsGoodRead most begun_at t.next_request after)
+        all = All-weaker (IsGoodRead most begun_at t.next_request t.next) (IsGoodRead most begun_at t.next_request after)
             (λ own good.
             let below : own.to ≤ t.next = good.below in
             record { drawn = good.drawn; begins = good.begins; ordered = good.ordered; below = omega arith; enough = good.enough; asked = good.asked })

@@ -16,10 +16,10 @@ use Rattle.ccr_model.specs.Tasks.{Task, Read, is_active, may_read, has_budget, i
 use Rattle.ccr_model.specs.Past.{Line, WrittenBatch}
 use Rattle.ccr_model.specs.FrameFacts.{AsksAsRead}
 use Rattle.ccr_law_base.proofs.Cases.{on_if}
+use Rattle.ccr_law_base.proofs.Lists.{All-append, All-by_request, All-changed_read, All-filter, All-find, All-weaker}
 use Rattle.ccr_law_tasks.specs.GoodTask.{IsGoodRead, IsSoundTask, IsGoodTask}
 use Rattle.ccr_law_tasks.specs.Asking.{AsksAsSent, IsAskOf, WasSent, Continues, SendsAsks, GoesOnAsking}
-use Rattle.ccr_law_tasks.proofs.Sums.{one_if, all-append, all-find, all-more, all-filter, count-cons}
-use Rattle.ccr_law_tasks.proofs.ReadLists.{all-changed}
+use Rattle.ccr_law_tasks.proofs.Sums.{one_if, count-cons, AreApart, apart-rest}
 use Rattle.ccr_law_tasks.proofs.Filling.{HasFullWrites, IsHalfFull, with_batches-sound, with_batches-full, sent_again-sound, with_read-sound, asks-within, fill_held-half, with_reads-half}
 use Rattle.ccr_law_tasks.proofs.Answering.{reply-sound}
 use Rattle.ccr_law_tasks.proofs.Calls.{start_task, start-sound, due_reads-sound, due_writes-sound, ended-sound}
@@ -32,17 +32,8 @@ finds request r = (r.request == request) && is_sent r.progress
 abbrev counts : ℕ → List Read → ℕ
 counts request reads = count_by (λ (r : Read). r.request == request) reads
 
-abbrev AreApart : List Read → Type 0
-AreApart reads = (k : ℕ) → count_by (λ (r : Read). r.request == k) reads ≤ 1
-
 counts-cons : (k : ℕ) (r : Read) (reads : List Read) → counts k (r ∷ reads) ≡ one_if (r.request == k) + counts k reads
 counts-cons k r reads = count-cons (λ (r : Read). r.request == k) r reads
-
-apart-rest : (x : Read) (reads : List Read) → AreApart (x ∷ reads) → AreApart reads
-apart-rest x reads apart = λ k.
-    let all : counts k (x ∷ reads) ≡ one_if (x.request == k) + counts k reads = counts-cons k x reads in
-    let most : counts k (x ∷ reads) ≤ 1 = apart k in
-    omega arith
 
 -- a read that is found counts
 find-counts : (request : ℕ) (reads : List Read) (r : Read) → find (finds request) reads ≡ Some r → 1 ≤ counts request reads
@@ -60,7 +51,7 @@ find-counts request (x ∷ reads) r found =
 -- no read is found under a number that was never drawn
 drawn-none : (request : ℕ) (reads : List Read) (r : Read) → AllByRecursion (λ (r : Read). r.request < request) reads → find (finds request) reads ≡ Some r → ⊥
 drawn-none request reads r drawn found =
-    let at = all-find (λ (r : Read). r.request < request) (finds request) reads r drawn found in
+    let at = All-find (λ (r : Read). r.request < request) (finds request) reads r drawn found in
     let below : r.request < request = at.0 in
     let own : (r.request == request) ≡ true = (and_parts (r.request == request) (is_sent r.progress) at.1).0 in
     let same : r.request ≡ request = eqb-true r.request request own in
@@ -79,7 +70,7 @@ find-more request (x ∷ reads) y r found =
     ]) found
 
 -- what is found behind a read is found with it, since no other read has its number
-find-behind : (request : ℕ) (x : Read) (reads : List Read) (r : Read) → AreApart (x ∷ reads) → find (finds request) reads ≡ Some r → find (finds request) (x ∷ reads) ≡ Some r
+find-behind : (request : ℕ) (x : Read) (reads : List Read) (r : Read) → AreApart (λ (y : Read). y.request) (x ∷ reads) → find (finds request) reads ≡ Some r → find (finds request) (x ∷ reads) ≡ Some r
 find-behind request x reads r apart found =
     (elim (finds request x) as (λ (b : Bool). finds request x ≡ b → (if b then Some x else find (finds request) reads) ≡ Some r) [
       | true ↦ λ is.
@@ -93,7 +84,7 @@ find-behind request x reads r apart found =
     ]) refl
 
 -- a change by which a read isn't found any more
-find-changed : (request p : ℕ) (f : Read → Read) → ((x : Read) → finds request (f x) ≡ false) → (reads : List Read) (r : Read) → AreApart reads
+find-changed : (request p : ℕ) (f : Read → Read) → ((x : Read) → finds request (f x) ≡ false) → (reads : List Read) (r : Read) → AreApart (λ (y : Read). y.request) reads
     → find (finds request) (changed_read p f reads) ≡ Some r → find (finds request) reads ≡ Some r
 find-changed request p f lost [] r apart found = found
 find-changed request p f lost (x ∷ reads) r apart found =
@@ -104,11 +95,11 @@ find-changed request p f lost (x ∷ reads) r apart found =
     (λ isnt now.
     (elim (finds request x) as (λ (b : Bool). (if b then Some x else find (finds request) (changed_read p f reads)) ≡ Some r → (if b then Some x else find (finds request) reads) ≡ Some r) [
       | true ↦ λ here. here
-      | false ↦ λ there. find-changed request p f lost reads r (apart-rest x reads apart) there
+      | false ↦ λ there. find-changed request p f lost reads r (apart-rest (λ y. y.request) x reads apart) there
     ]) now)
     found
 
-find-without : (request p : ℕ) (reads : List Read) (r : Read) → AreApart reads → find (finds request) (without_read p reads) ≡ Some r → find (finds request) reads ≡ Some r
+find-without : (request p : ℕ) (reads : List Read) (r : Read) → AreApart (λ (y : Read). y.request) reads → find (finds request) (without_read p reads) ≡ Some r → find (finds request) reads ≡ Some r
 find-without request p [] r apart found = found
 find-without request p (x ∷ reads) r apart found =
     on_if (λ (rs : List Read). find (finds request) rs ≡ Some r → find (finds request) (x ∷ reads) ≡ Some r) (x.request == p) reads (x ∷ without_read p reads)
@@ -116,7 +107,7 @@ find-without request p (x ∷ reads) r apart found =
     (λ isnt now.
     (elim (finds request x) as (λ (b : Bool). (if b then Some x else find (finds request) (without_read p reads)) ≡ Some r → (if b then Some x else find (finds request) reads) ≡ Some r) [
       | true ↦ λ here. here
-      | false ↦ λ there. find-without request p reads r (apart-rest x reads apart) there
+      | false ↦ λ there. find-without request p reads r (apart-rest (λ y. y.request) x reads apart) there
     ]) now)
     found
 
@@ -171,7 +162,7 @@ all-both : (P Q R : Read → Type 0) → ((x : Read) → P x → Q x → R x) �
 all-both P Q R f [] p q = tt
 all-both P Q R f (x ∷ xs) p q = (f x p.0 q.0, all-both P Q R f xs p.1 q.1)
 
-all-match : (reads : List Read) → AreApart reads → AllByRecursion (λ (r : Read). AllByRecursion (Matches r) reads) reads
+all-match : (reads : List Read) → AreApart (λ (y : Read). y.request) reads → AllByRecursion (λ (r : Read). AllByRecursion (Matches r) reads) reads
 all-match [] apart = tt
 all-match (x ∷ reads) apart =
     let own : (x.request == x.request) ≡ true = grind (arith, nat_tests) in
@@ -179,20 +170,15 @@ all-match (x ∷ reads) apart =
     let all : counts x.request (x ∷ reads) ≡ one_if (x.request == x.request) + counts x.request reads = counts-cons x.request x reads in
     let most : counts x.request (x ∷ reads) ≤ 1 = apart x.request in
     let others : AllByRecursion (λ (y : Read). (y.request == x.request) ≡ false) reads = none-of x.request reads (omega arith) in (
-      (λ is. (refl, refl), all-more (λ (y : Read). (y.request == x.request) ≡ false) (Matches x) (λ y isnt is. absurd (false-true (y.request == x.request) isnt is)) reads others),
+      (λ is. (refl, refl), All-weaker (λ (y : Read). (y.request == x.request) ≡ false) (Matches x) (λ y isnt is. absurd (false-true (y.request == x.request) isnt is)) reads others),
       all-both (λ (r : Read). AllByRecursion (Matches r) reads) (λ (y : Read). (y.request == x.request) ≡ false) (λ (r : Read). AllByRecursion (Matches r) (x ∷ reads))
           (λ r rest isnt. (λ is. absurd (false-true (x.request == r.request) (eqb-sym r.request x.request isnt) is), rest))
-          reads (all-match reads (apart-rest x reads apart)) others,
+          reads (all-match reads (apart-rest (λ y. y.request) x reads apart)) others,
     )
-
-all-by_request : (P : Read → Type 0) (r : Read) (reads : List Read) → P r → AllByRecursion P reads → AllByRecursion P (by_request r reads)
-all-by_request P r [] p a = (p, tt)
-all-by_request P r (x ∷ reads) p a =
-    on_if (λ (rs : List Read). AllByRecursion P rs) (nat_lt r.request x.request) (r ∷ x ∷ reads) (x ∷ by_request r reads) (λ is. (p, a)) (λ isnt. (a.0, all-by_request P r reads p a.1))
 
 all-ordered : (P : Read → Type 0) (reads rest : List Read) → AllByRecursion P reads → AllByRecursion P rest → AllByRecursion P (fold {A = Read} {B = List Read} (λ rest r. by_request r rest) rest reads)
 all-ordered P [] rest a b = b
-all-ordered P (r ∷ reads) rest a b = all-ordered P reads (by_request r rest) a.1 (all-by_request P r rest a.0 b)
+all-ordered P (r ∷ reads) rest a b = all-ordered P reads (by_request r rest) a.1 (All-by_request P r rest a.0 b)
 
 -- ---- one thing after another
 
@@ -241,7 +227,7 @@ carry t next on m ask =
 then-asks : (t : Task) (first : Sending Task) (f : Task → Sending Task) → SendsAsks t first → SendsAsks first.next (f first.next) → SendsAsks t (followed_by first f)
 then-asks t first f a b = record {
   continues = continues-on t first.next (f first.next).next a.continues b.continues;
-  asks = all-append (IsAskOf (f first.next).next) first.sent (f first.next).sent (all-more (IsAskOf first.next) (IsAskOf (f first.next).next) (carry first.next (f first.next).next b.continues) first.sent a.asks) b.asks;
+  asks = All-append (IsAskOf (f first.next).next) first.sent (f first.next).sent (All-weaker (IsAskOf first.next) (IsAskOf (f first.next).next) (carry first.next (f first.next).next b.continues) first.sent a.asks) b.asks;
 }
 
 after-asks : (t middle : Task) (done : Sending Task) → Continues t middle → SendsAsks middle done → SendsAsks t done
@@ -254,7 +240,7 @@ quiet-asks t = record { continues = continues-id t t refl refl refl refl refl; a
 
 drawn-of : (line : Line) (begun_at : ℕ) (written : List WrittenBatch) (t : Task) → IsSoundTask line t begun_at written → AllByRecursion (λ (r : Read). r.request < t.next_request) t.reads
 drawn-of line begun_at written t s =
-    all-more (IsGoodRead t.params.max_read_request_operation_count begun_at t.next_request t.next) (λ (r : Read). r.request < t.next_request) (λ r good. good.drawn) t.reads s.reads.all
+    All-weaker (IsGoodRead t.params.max_read_request_operation_count begun_at t.next_request t.next) (λ (r : Read). r.request < t.next_request) (λ r good. good.drawn) t.reads s.reads.all
 
 other-number : (n q : ℕ) → q < n → (n == q) ≡ false
 other-number n q low = grind (arith, nat_tests)
@@ -325,7 +311,7 @@ matches-on t r other match =
     let low : other.request < t.next_request = match.drawn in
     record {
       drawn = omega arith;
-      reads = all-changed (Matches other) r.request (renumber t.next_request)
+      reads = All-changed_read (Matches other) r.request (renumber t.next_request)
           (λ own at is. absurd (false-true (t.next_request == other.request) (other-number t.next_request other.request low) is)) t.reads match.reads;
     }
 
@@ -335,7 +321,7 @@ again-asks line begun_at written [] t may s match = quiet-asks t
 again-asks line begun_at written (r ∷ rs) t may s match =
     then-asks t (sent_again t r) (all_sent_again rs) (again-asks-one line begun_at written t r s match.0.reads)
     (again-asks line begun_at written rs (sent_again t r).next may (sent_again-sound line begun_at written t r may s)
-    (all-more (MatchesTask t) (MatchesTask (sent_again t r).next) (matches-on t r) rs match.1))
+    (All-weaker (MatchesTask t) (MatchesTask (sent_again t r).next) (matches-on t r) rs match.1))
 
 own-match : (line : Line) (begun_at : ℕ) (written : List WrittenBatch) (t : Task) → IsSoundTask line t begun_at written → AllByRecursion (MatchesTask t) t.reads
 own-match line begun_at written t s =
@@ -353,7 +339,7 @@ batches-continue (suc n) t =
 held-asks : (line : Line) (begun_at : ℕ) (written : List WrittenBatch) (t : Task) → IsSoundTask line t begun_at written → SendsAsks t (fill_held t)
 held-asks line begun_at written t s =
     on_if (λ (done : Sending Task). SendsAsks t done) (may_read t) (all_sent_again (filter is_held t.reads) t) (quiet t)
-    (λ may. again-asks line begun_at written (filter is_held t.reads) t may s (all-filter (MatchesTask t) is_held t.reads (own-match line begun_at written t s))) (λ maynt. quiet-asks t)
+    (λ may. again-asks line begun_at written (filter is_held t.reads) t may s (All-filter (MatchesTask t) is_held t.reads (own-match line begun_at written t s))) (λ maynt. quiet-asks t)
 
 reads-asks : (line : Line) (begun_at : ℕ) (written : List WrittenBatch) (n : ℕ) (t : Task) → IsSoundTask line t begun_at written → SendsAsks t (with_reads n t)
 reads-asks line begun_at written zero t s = quiet-asks t
@@ -446,7 +432,7 @@ due-asks line begun_at written now t s =
     let due : List Read = filter (λ r. is_due now r.progress) t.reads in
     on_if (λ (done : Sending Task). SendsAsks t done) (may_read t) (all_sent_again (in_order_of_request due) t) (quiet t)
     (λ may. again-asks line begun_at written (in_order_of_request due) t may s
-    (all-ordered (MatchesTask t) due [] (all-filter (MatchesTask t) (λ r. is_due now r.progress) t.reads (own-match line begun_at written t s)) tt))
+    (all-ordered (MatchesTask t) due [] (All-filter (MatchesTask t) (λ r. is_due now r.progress) t.reads (own-match line begun_at written t s)) tt))
     (λ maynt. quiet-asks t)
 
 ticked-asks : (line : Line) (begun_at : ℕ) (written : List WrittenBatch) (now : ℕ) (t : Task) → IsSoundTask line t begun_at written → SendsAsks t (ticked now t)

@@ -14,9 +14,10 @@ use Rattle.ccr_model.specs.Past.{Line, WrittenBatch}
 use Rattle.ccr_model.specs.FrameFacts.{IsCommitted}
 use Rattle.ccr_model.specs.TaskFacts.{IsSaturated, IsBoundedBatch, times_at, times_in, batches_of, written_in, is_in_read}
 use Rattle.ccr_law_base.proofs.Cases.{on_if}
+use Rattle.ccr_law_base.proofs.Lists.{All-changed_read, All-weaker}
 use Rattle.ccr_law_tasks.specs.GoodTask.{IsGoodRead, HasRoom, sent_count, largest_committed, IsLater, IsSoundTask, IsGoodTask, IsTrueReply}
-use Rattle.ccr_law_tasks.proofs.Sums.{one_if, all-more}
-use Rattle.ccr_law_tasks.proofs.ReadLists.{length-changed, all-changed, count-changed-le, count-changed-same}
+use Rattle.ccr_law_tasks.proofs.Sums.{one_if}
+use Rattle.ccr_law_tasks.proofs.ReadLists.{length-changed, count-changed-le, count-changed-same}
 use Rattle.ccr_law_tasks.proofs.WriteLists.{KeepsWrite, IsWritePlaced, write-placed, length-changed_write, all-changed_write, count-changed_write, batches-changed_write, length-mapped, all-mapped, count-mapped, batches-mapped, times-without, all-without_write, length-without_write, count-without_write, batches-without, times-written}
 use Rattle.ccr_law_tasks.proofs.SameEpoch.{fill-epoch}
 use Rattle.ccr_law_tasks.proofs.Filling.{all-sent-again, fill-done, filled-good}
@@ -103,7 +104,7 @@ read_lost-sound line begun_at written t now r s =
       params = s.params;
       begun = s.begun;
       reads = record {
-        all = all-changed (IsGoodRead most begun_at t.next_request t.next) r.request f
+        all = All-changed_read (IsGoodRead most begun_at t.next_request t.next) r.request f
             (λ own good. record { drawn = good.drawn; begins = good.begins; ordered = good.ordered; below = good.below; enough = good.enough; asked = good.asked }) t.reads s.reads.all;
         apart = λ k.
             let same : count_by {X = Read} (λ r. r.request == k) (changed_read r.request f t.reads) ≡ count_by {X = Read} (λ r. r.request == k) t.reads = count-changed-same (λ r. r.request == k) r.request f (λ own. refl) t.reads in
@@ -134,7 +135,7 @@ read_lost-saturated t now r full =
     let budget : has_budget (read_lost t now r) ≡ has_budget t = ap (λ (n : ℕ). nat_lt n t.params.max_outstanding_read_requests && may_read t) same in
     record {
       writes = full.writes;
-      held = λ may. all-changed (λ (r : Read). is_held r ≡ false) r.request f (λ own isnt. refl) t.reads (full.held may);
+      held = λ may. All-changed_read (λ (r : Read). is_held r ≡ false) r.request f (λ own isnt. refl) t.reads (full.held may);
       reads = λ has. full.reads (sym budget ∙ has);
       one = λ has. let some : 1 ≤ length t.reads = full.one (sym budget ∙ has) in omega arith;
     }
@@ -369,7 +370,7 @@ drawn-good line begun_at written t good = record {
     params = good.sound.params;
     begun = good.sound.begun;
     reads = record {
-      all = all-more (IsGoodRead t.params.max_read_request_operation_count begun_at t.next_request t.next) (IsGoodRead t.params.max_read_request_operation_count begun_at (t.next_request + 1) t.next)
+      all = All-weaker (IsGoodRead t.params.max_read_request_operation_count begun_at t.next_request t.next) (IsGoodRead t.params.max_read_request_operation_count begun_at (t.next_request + 1) t.next)
           (λ own r. record { drawn = (let low : own.request < t.next_request = r.drawn in omega arith); begins = r.begins; ordered = r.ordered; below = r.below; enough = r.enough; asked = r.asked })
           t.reads good.sound.reads.all;
       apart = good.sound.reads.apart;
@@ -409,8 +410,8 @@ later-good line next begun_at written t later good =
         places = s.places;
         room = s.room;
         space = omega arith;
-        buffer = all-more (IsCommitted line) (IsCommitted next) (committed-later line next later) t.buffer s.buffer;
-        batches = all-more (IsCommitted line) (IsCommitted next) (committed-later line next later) (batches_of t.writes) s.batches;
+        buffer = All-weaker (IsCommitted line) (IsCommitted next) (committed-later line next later) t.buffer s.buffer;
+        batches = All-weaker (IsCommitted line) (IsCommitted next) (committed-later line next later) (batches_of t.writes) s.batches;
       };
       saturated = good.saturated;
     }

@@ -12,10 +12,11 @@ use Rattle.ccr_model.specs.Past.{Line, WrittenBatch}
 use Rattle.ccr_model.specs.FrameFacts.{IsCommitted}
 use Rattle.ccr_model.specs.TaskFacts.{StandsOnce, IsSaturated, IsBoundedBatch, times_at, times_in, batches_of, is_in_read}
 use Rattle.ccr_law_base.proofs.Cases.{on_if}
+use Rattle.ccr_law_base.proofs.Lists.{All-append, All-append_back, All-append_front, All-changed_read, All-weaker}
 use Rattle.ccr_law_tasks.specs.GoodTask.{IsGoodRead, HasRoom, IsSoundTask, IsGoodTask}
-use Rattle.ccr_law_tasks.proofs.Sums.{one_if, all-append, all-front, all-rest, all-more, count-cons, count-append, count-one}
+use Rattle.ccr_law_tasks.proofs.Sums.{one_if, count-cons, count-append, count-one}
 use Rattle.ccr_law_tasks.proofs.Operations.{one_in, bytes-append}
-use Rattle.ccr_law_tasks.proofs.ReadLists.{length-changed, all-changed, count-changed-le, count-changed-same, count-renumbered, count-undrawn, held_with, none-held, count-held, count-held-le}
+use Rattle.ccr_law_tasks.proofs.ReadLists.{length-changed, count-changed-le, count-changed-same, count-renumbered, count-undrawn, held_with, none-held, count-held, count-held-le}
 use Rattle.ccr_law_tasks.proofs.WriteLists.{batches-more, count-ungiven}
 use Rattle.ccr_law_tasks.proofs.Cuts.{cut-splits, cut-bounded, cut-some, none-of}
 
@@ -62,8 +63,8 @@ with_batch-sound line t begun_at written few s =
       begun = s.begun;
       reads = s.reads;
       writes = record {
-        drawn = all-append (λ (w : Write). w.number < t.next_write + 1) t.writes (w ∷ [])
-            (all-more (λ (w : Write). w.number < t.next_write) (λ (w : Write). w.number < t.next_write + 1) (λ w low. omega arith) t.writes s.writes.drawn) (omega arith, tt);
+        drawn = All-append (λ (w : Write). w.number < t.next_write + 1) t.writes (w ∷ [])
+            (All-weaker (λ (w : Write). w.number < t.next_write) (λ (w : Write). w.number < t.next_write + 1) (λ w low. omega arith) t.writes s.writes.drawn) (omega arith, tt);
         apart = λ k.
             let all : count_by {X = Write} (λ w. w.number == k) (t.writes ++ w ∷ []) ≡ count_by {X = Write} (λ w. w.number == k) t.writes + count_by {X = Write} (λ w. w.number == k) (w ∷ []) = count-append {X = Write} (λ w. w.number == k) t.writes (w ∷ []) in
             let one : count_by {X = Write} (λ w. w.number == k) (w ∷ []) ≡ one_if (t.next_write == k) = count-one {X = Write} (λ w. w.number == k) w in
@@ -77,15 +78,15 @@ with_batch-sound line t begun_at written few s =
             (λ isnt i. omega arith)
             one;
         few = let more : length (t.writes ++ w ∷ []) ≡ length t.writes + length (w ∷ []) = length-append t.writes (w ∷ []) in omega arith;
-        batches = all-append (λ (w : Write). IsBoundedBatch t.params.max_write_request_operation_count t.params.max_write_request_size w.batch) t.writes (w ∷ []) s.writes.batches
+        batches = All-append (λ (w : Write). IsBoundedBatch t.params.max_write_request_operation_count t.params.max_write_request_size w.batch) t.writes (w ∷ []) s.writes.batches
             (cut-bounded t.params.max_write_request_operation_count t.params.max_write_request_size t.buffer (s.params.max_write_request_operation_count.some), tt);
       };
       places = λ active. with_batch-places t begun_at written (s.places active);
       room = room-less _ _ _ _ (length t.buffer) (length (rest_of t)) (omega arith) s.room;
       space = room-less _ _ _ _ (bytes_of t.buffer) (bytes_of (rest_of t)) (omega arith) s.space;
-      buffer = all-rest (IsCommitted line) (batch_of t) (rest_of t) committed;
+      buffer = All-append_back (IsCommitted line) (batch_of t) (rest_of t) committed;
       batches = subst (λ (ops : List Operation). AllByRecursion (IsCommitted line) ops) (sym (batches-more t.writes w))
-          (all-append (IsCommitted line) (batches_of t.writes) (batch_of t) s.batches (all-front (IsCommitted line) (batch_of t) (rest_of t) committed));
+          (All-append (IsCommitted line) (batches_of t.writes) (batch_of t) s.batches (All-append_front (IsCommitted line) (batch_of t) (rest_of t) committed));
     }
 
 pub with_batches-sound : (line : Line) (begun_at : ℕ) (written : List WrittenBatch) (n : ℕ) (t : Task) → length t.writes + n ≤ t.params.max_outstanding_write_requests
@@ -158,9 +159,9 @@ sent_again-sound line begun_at written t r may s =
       params = s.params;
       begun = s.begun;
       reads = record {
-        all = all-changed (IsGoodRead most begun_at (t.next_request + 1) t.next) r.request (renumber t.next_request)
+        all = All-changed_read (IsGoodRead most begun_at (t.next_request + 1) t.next) r.request (renumber t.next_request)
             (λ own good. record { drawn = omega arith; begins = good.begins; ordered = good.ordered; below = good.below; enough = good.enough; asked = good.asked }) t.reads
-            (all-more (IsGoodRead most begun_at t.next_request t.next) (IsGoodRead most begun_at (t.next_request + 1) t.next)
+            (All-weaker (IsGoodRead most begun_at t.next_request t.next) (IsGoodRead most begun_at (t.next_request + 1) t.next)
             (λ own good. record { drawn = (let low : own.request < t.next_request = good.drawn in omega arith); begins = good.begins; ordered = good.ordered; below = good.below; enough = good.enough; asked = good.asked })
             t.reads s.reads.all);
         apart = apart-more t (changed_read r.request (renumber t.next_request) t.reads) most begun_at s.reads.all s.reads.apart
@@ -262,8 +263,8 @@ with_read-sound line begun_at written t to asked has up enough low s =
       params = s.params;
       begun = omega arith;
       reads = record {
-        all = all-append (IsGoodRead most begun_at (t.next_request + 1) to) t.reads (r ∷ [])
-            (all-more (IsGoodRead most begun_at t.next_request t.next) (IsGoodRead most begun_at (t.next_request + 1) to)
+        all = All-append (IsGoodRead most begun_at (t.next_request + 1) to) t.reads (r ∷ [])
+            (All-weaker (IsGoodRead most begun_at t.next_request t.next) (IsGoodRead most begun_at (t.next_request + 1) to)
             (λ own good.
             let drawn : own.request < t.next_request = good.drawn in
             let below : own.to ≤ t.next = good.below in
@@ -307,7 +308,7 @@ with_read-half : (line : Line) (begun_at : ℕ) (written : List WrittenBatch) (t
 with_read-half line begun_at written t to asked has up enough low h = record {
   sound = with_read-sound line begun_at written t to asked has up enough low h.sound;
   writes = h.writes;
-  held = λ may. all-append (λ (r : Read). is_held r ≡ false) t.reads (new_read t to asked ∷ []) (h.held may) (refl, tt);
+  held = λ may. All-append (λ (r : Read). is_held r ≡ false) t.reads (new_read t to asked ∷ []) (h.held may) (refl, tt);
 }
 
 pub asks-within : (t : Task) (size : ℕ) → size ≤ t.params.max_read_request_operation_count

@@ -1,33 +1,17 @@
 -- A claim on all followers after an event: one of them changed, or one was made, or none.
 use Rattle.std.specs.Prelude.{◌==◌, slice_get, slice_set}
-use Rattle.std.proofs.Common.{◌≡◌, ℕ, zero, suc, Bool, true, false, List, [], ◌∷◌, ◌++◌, Option, Some, None, refl, sym, subst, arith}
+use Rattle.std.proofs.Common.{◌≡◌, ℕ, zero, suc, Bool, true, false, List, [], ◌∷◌, ◌++◌, Option, Some, None, refl, sym, subst}
 use Rattle.std.proofs.lemmas.Bool.{eqb-true}
-use Rattle.std.proofs.lemmas.Bool.Decides.{nat_tests}
 use Rattle.ccr_op.specs.Operation.{Operation}
 use Rattle.ccr_journal.specs.declared.events.Event.{Event}
 use Rattle.ccr_journal.specs.declared.replies.Reply.{Reply}
 use Rattle.ccr_model.specs.Followers.{Follower}
 use Rattle.ccr_model.specs.Past.{Line, Past, WrittenBatch, written_after, follower_past_of, sending_place}
+use Rattle.ccr_law_base.proofs.Lists.{push-old, set-other, set-same}
 use Rattle.ccr_law_tasks.specs.GoodFollowers.{IsGoodFollower, AreGoodFollowers}
 use Rattle.ccr_law_tasks.proofs.TaskRows.{begun_after, still}
 
 -- ---- lists
-
-set-same : {X : Type 0} (xs : List X) (i : ℕ) (x y : X) → slice_get xs i ≡ Some x → slice_get (slice_set xs i y) i ≡ Some y
-set-same [] i x y at = absurd (cc)
-set-same (z ∷ xs) zero x y at = refl
-set-same (z ∷ xs) (suc i) x y at = set-same xs i x y at
-
-eqb-suc : (i j : ℕ) → (suc i == suc j) ≡ false → (i == j) ≡ false
-eqb-suc i j other = grind (arith, nat_tests)
-
-set-other : {X : Type 0} (xs : List X) (i j : ℕ) (y : X) → (i == j) ≡ false → slice_get (slice_set xs i y) j ≡ slice_get xs j
-set-other [] zero j y other = refl
-set-other [] (suc i) j y other = refl
-set-other (z ∷ xs) zero zero y other = absurd (cc)
-set-other (z ∷ xs) zero (suc j) y other = refl
-set-other (z ∷ xs) (suc i) zero y other = refl
-set-other (z ∷ xs) (suc i) (suc j) y other = set-other xs i j y (eqb-suc i j other)
 
 set-none : {X : Type 0} (xs : List X) (i j : ℕ) (y : X) → slice_get (slice_set xs i y) j ≡ None → slice_get xs j ≡ None
 set-none [] zero j y none = none
@@ -36,11 +20,6 @@ set-none (z ∷ xs) zero zero y none = absurd (cc)
 set-none (z ∷ xs) zero (suc j) y none = none
 set-none (z ∷ xs) (suc i) zero y none = absurd (cc)
 set-none (z ∷ xs) (suc i) (suc j) y none = set-none xs i j y none
-
-push-old : {X : Type 0} (xs : List X) (i : ℕ) (x y : X) → slice_get xs i ≡ Some x → slice_get (xs ++ y ∷ []) i ≡ Some x
-push-old [] i x y at = absurd (cc)
-push-old (z ∷ xs) zero x y at = at
-push-old (z ∷ xs) (suc i) x y at = push-old xs i x y at
 
 push-new : {X : Type 0} (xs : List X) (i : ℕ) (x y : X) → slice_get xs i ≡ None → slice_get (xs ++ y ∷ []) i ≡ Some x → x ≡ y
 push-new [] zero x y none at = cc

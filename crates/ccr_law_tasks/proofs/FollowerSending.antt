@@ -21,15 +21,15 @@ use Rattle.ccr_model.specs.Restores.{Restore, Stage, Fetch, ChunkAsked, leasing,
 use Rattle.ccr_model.specs.Followers.{Follower, Work, restoring, replicating, bootstrapped}
 use Rattle.ccr_model.specs.FollowerRows.{Sent, does, with_task, with_copies, restore_done, restore_heard, hear_read, task_heard, work_hears, follower_receive_row, task_lost, bootstrap_lost, lose_row, tick_row, follower_clock_row, lose_write_row, take_row, new_in, applied, is_other, apply_row, lacks, write_done, written_row, lease_request, needed_from, renew_row, pause_row, is_paused, task_anew, resume_row, restart_row, unfollow_row, is_bootstrapping, follower_add_copy_row, follower_status_row}
 use Rattle.ccr_law_base.proofs.Cases.{on_if, on_guards}
+use Rattle.ccr_law_base.proofs.Lists.{All-append}
 use Rattle.ccr_law_tasks.specs.GoodFollowers.{IsRunOf}
-use Rattle.ccr_law_tasks.proofs.Sums.{all-append}
 use Rattle.ccr_law_tasks.proofs.Sending.{AreRuns, add_copy-sends}
 
 abbrev Quietly : {S : Type 0} → Sending S → Type 0
 Quietly done = AreRuns done.sent
 
 joined : (xs ys : List Frame) → AreRuns xs → AreRuns ys → AreRuns (xs ++ ys)
-joined xs ys a b = all-append (λ (m : Frame). IsRunOf m.content) xs ys a b
+joined xs ys a b = All-append (λ (m : Frame). IsRunOf m.content) xs ys a b
 
 -- ---- the task
 

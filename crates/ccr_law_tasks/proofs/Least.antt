@@ -11,10 +11,9 @@ use Rattle.ccr_model.specs.Requests.{Sending, quiet, followed_by, on_its_way, he
 use Rattle.ccr_model.specs.Tasks.{Task, Read, is_active, may_read, has_budget, is_held, changed_read, without_read, sent_again, all_sent_again, with_batch, with_batches, fill_writes, fill_held, with_read, asks, next_read, with_reads, fill_reads, fill_peek, fill, filled_if_active, started, read_sent, end_of_ops, rest_from, after_reply, in_order_of_request, waits_after, without_write, due_reads_sent, due_writes_sent, ticked, least_from}
 use Rattle.ccr_model.specs.Past.{Line, WrittenBatch}
 use Rattle.ccr_law_base.proofs.Cases.{on_if}
+use Rattle.ccr_law_base.proofs.Lists.{All-append, All-changed_read, All-find, All-weaker, All-without_read}
 use Rattle.ccr_law_tasks.specs.GoodTask.{IsGoodRead, IsGoodTask}
 use Rattle.ccr_law_tasks.specs.FromOn.{IsFromOn, StaysFromOn}
-use Rattle.ccr_law_tasks.proofs.Sums.{all-append, all-find, all-more}
-use Rattle.ccr_law_tasks.proofs.ReadLists.{all-changed, all-without}
 
 -- ---- Fill
 
@@ -29,7 +28,7 @@ again-from [] n t from = from
 again-from (r ∷ rs) n t from =
     again-from rs n (sent_again t r).next (record {
       next = from.next;
-      reads = all-changed (λ (r : Read). n ≤ r.from) r.request (λ own. record own { request = t.next_request; progress = on_its_way }) (λ own low. low) t.reads from.reads;
+      reads = All-changed_read (λ (r : Read). n ≤ r.from) r.request (λ own. record own { request = t.next_request; progress = on_its_way }) (λ own low. low) t.reads from.reads;
     })
 
 held-from : (n : ℕ) (t : Task) → IsFromOn n t → IsFromOn n (fill_held t).next
@@ -40,7 +39,7 @@ read-from : (n : ℕ) (t : Task) (to asked : ℕ) → t.next ≤ to → IsFromOn
 read-from n t to asked up from =
     let low : n ≤ t.next = from.next in
     let r : Read = record { request = t.next_request; from = t.next; to = to; asked = asked; progress = on_its_way } in
-    record { next = omega arith; reads = all-append (λ (r : Read). n ≤ r.from) t.reads (r ∷ []) from.reads (low, tt) }
+    record { next = omega arith; reads = All-append (λ (r : Read). n ≤ r.from) t.reads (r ∷ []) from.reads (low, tt) }
 
 reads-from : (k n : ℕ) (t : Task) → IsFromOn n t → IsFromOn n (with_reads k t).next
 reads-from zero n t from = from
@@ -96,15 +95,15 @@ end-up (op ∷ ops) n = let rest : max n (op.seq + 1) ≤ end_of_ops ops (max n 
 pub reply-from : (n : ℕ) (t : Task) (r : Read) (request global : ℕ) (ops : List Operation) → read_sent t request ≡ Some r → IsFromOn n t → IsFromOn n (filled_if_active (after_reply t r global ops)).next
 reply-from n t r request global ops sent from =
     let rest : ℕ = rest_from r ops in
-    let low : n ≤ r.from = (all-find (λ (r : Read). n ≤ r.from) (λ r. (r.request == request) && is_sent r.progress) t.reads r from.reads sent).0 in
+    let low : n ≤ r.from = (All-find (λ (r : Read). n ≤ r.from) (λ r. (r.request == request) && is_sent r.progress) t.reads r from.reads sent).0 in
     let next_low : n ≤ t.next = from.next in
     let up : t.next ≤ end_of_ops ops t.next = end-up ops t.next in
     filled-from n (after_reply t r global ops) (record {
       next = on_if (λ (k : ℕ). n ≤ k) (t.next == r.to) (end_of_ops ops t.next) t.next (λ is. omega arith) (λ isnt. from.next);
       reads = on_if (λ (rs : List Read). AllByRecursion (λ (r : Read). n ≤ r.from) rs) (nat_lt rest r.to)
           (changed_read r.request (λ own. record own { from = rest; asked = r.to - rest; progress = held_back }) t.reads) (without_read r.request t.reads)
-          (λ is. all-changed (λ (r : Read). n ≤ r.from) r.request (λ own. record own { from = rest; asked = r.to - rest; progress = held_back }) (λ own at. omega arith) t.reads from.reads)
-          (λ isnt. all-without (λ (r : Read). n ≤ r.from) r.request t.reads from.reads);
+          (λ is. All-changed_read (λ (r : Read). n ≤ r.from) r.request (λ own. record own { from = rest; asked = r.to - rest; progress = held_back }) (λ own at. omega arith) t.reads from.reads)
+          (λ isnt. All-without_read (λ (r : Read). n ≤ r.from) r.request t.reads from.reads);
     })
 
 due-from : (now n : ℕ) (t : Task) → IsFromOn n t → IsFromOn n (due_reads_sent now t).next
@@ -122,7 +121,7 @@ pub stays-from : StaysFromOn
 stays-from = record {
   read_lost = λ now r n t from. record {
     next = from.next;
-    reads = all-changed (λ (r : Read). n ≤ r.from) r.request (λ own. record own { progress = waits_after t now }) (λ own low. low) t.reads from.reads;
+    reads = All-changed_read (λ (r : Read). n ≤ r.from) r.request (λ own. record own { progress = waits_after t now }) (λ own low. low) t.reads from.reads;
   };
   write_lost = λ now w n t from. record { next = from.next; reads = from.reads };
   ticked = λ now n t from. ticked-from now n t from;
@@ -135,7 +134,7 @@ stays-from = record {
 least-low : (next : ℕ) (reads : List Read) → AllByRecursion (λ (r : Read). least_from next reads ≤ r.from) reads
 least-low next [] = tt
 least-low next (r ∷ reads) =
-    (omega arith, all-more (λ (x : Read). least_from r.from reads ≤ x.from) (λ (x : Read). min r.from (least_from r.from reads) ≤ x.from) (λ x low. omega arith) reads (least-low r.from reads))
+    (omega arith, All-weaker (λ (x : Read). least_from r.from reads ≤ x.from) (λ (x : Read). min r.from (least_from r.from reads) ≤ x.from) (λ x low. omega arith) reads (least-low r.from reads))
 
 least-next : (most begun_at next_request next : ℕ) (reads : List Read) → AllByRecursion (IsGoodRead most begun_at next_request next) reads → least_from next reads ≤ next
 least-next most begun_at next_request next [] good = omega arith

@@ -5,8 +5,9 @@ use Rattle.std.proofs.Common.{◌≡◌, ℕ, ◌+◌, ◌-◌, ◌≤◌, ◌<�
 use Rattle.std.proofs.lemmas.Bool.Decides.{nat_tests}
 use Rattle.ccr_model.specs.Requests.{is_sent}
 use Rattle.ccr_model.specs.Tasks.{Read, changed_read, without_read, is_held}
+use Rattle.ccr_law_base.proofs.Tests.{itself}
 use Rattle.ccr_law_base.proofs.Cases.{on_if}
-use Rattle.ccr_law_tasks.proofs.Sums.{one_if, count-cons, count-append}
+use Rattle.ccr_law_tasks.proofs.Sums.{one_if, count-cons, count-append, AreApart, apart-rest, apart-other}
 
 -- ---- reads
 
@@ -15,11 +16,6 @@ length-changed q f [] = refl
 length-changed q f (r ∷ reads) =
     let rest : length (changed_read q f reads) ≡ length reads = length-changed q f reads in
     on_if (λ (rs : List Read). length rs ≡ length (r ∷ reads)) (r.request == q) (f r ∷ reads) (r ∷ changed_read q f reads) (λ is. omega arith) (λ isnt. omega arith)
-
-pub all-changed : (P : Read → Type 0) (q : ℕ) (f : Read → Read) → ((r : Read) → P r → P (f r)) → (reads : List Read) → AllByRecursion P reads → AllByRecursion P (changed_read q f reads)
-all-changed P q f keeps [] a = tt
-all-changed P q f keeps (r ∷ reads) a =
-    on_if (λ (rs : List Read). AllByRecursion P rs) (r.request == q) (f r ∷ reads) (r ∷ changed_read q f reads) (λ is. (keeps r a.0, a.1)) (λ isnt. (a.0, all-changed P q f keeps reads a.1))
 
 -- a change that adds at most so much to what counts adds at most so much to the count
 pub count-changed-le : (p : Read → Bool) (q more : ℕ) (f : Read → Read) → ((r : Read) → one_if (p (f r)) ≤ one_if (p r) + more)
@@ -78,16 +74,13 @@ pub record IsPlaced (r : Read) (reads : List Read) : Type 0 where
   pub changed : (f : Read → Read) → changed_read r.request f reads ≡ before ++ f r ∷ after
   pub without : without_read r.request reads ≡ before ++ after
 
-eqb-same : (n : ℕ) → (n == n) ≡ true
-eqb-same n = grind (arith, nat_tests)
-
 placed-first : (r : Read) (reads : List Read) → IsPlaced r (r ∷ reads)
 placed-first r reads = record {
   before = [];
   after = reads;
   is = refl;
-  changed = λ f. ap (λ (b : Bool). if b then f r ∷ reads else r ∷ changed_read r.request f reads) (eqb-same r.request);
-  without = ap (λ (b : Bool). if b then reads else r ∷ without_read r.request reads) (eqb-same r.request);
+  changed = λ f. ap (λ (b : Bool). if b then f r ∷ reads else r ∷ changed_read r.request f reads) (itself r.request);
+  without = ap (λ (b : Bool). if b then reads else r ∷ without_read r.request reads) (itself r.request);
 }
 
 placed-later : (r x : Read) (reads : List Read) → (x.request == r.request) ≡ false → IsPlaced r reads → IsPlaced r (x ∷ reads)
@@ -105,42 +98,16 @@ placed-later r x reads other p = record {
       (cc);
 }
 
--- a read that is there counts for its request number
-count-placed : (r : Read) (reads : List Read) → IsPlaced r reads → 1 ≤ count_by (λ x. x.request == r.request) reads
-count-placed r reads p =
-    let split : count_by {X = Read} (λ x. x.request == r.request) (p.before ++ r ∷ p.after) ≡ count_by {X = Read} (λ x. x.request == r.request) p.before + count_by {X = Read} (λ x. x.request == r.request) (r ∷ p.after) = count-append {X = Read} (λ x. x.request == r.request) p.before (r ∷ p.after) in
-    let here : count_by {X = Read} (λ x. x.request == r.request) (r ∷ p.after) ≡ one_if (r.request == r.request) + count_by {X = Read} (λ x. x.request == r.request) p.after = count-cons {X = Read} (λ x. x.request == r.request) r p.after in
-    let one : one_if (r.request == r.request) ≡ 1 = ap one_if (eqb-same r.request) in
-    let same : count_by {X = Read} (λ x. x.request == r.request) reads ≡ count_by {X = Read} (λ x. x.request == r.request) (p.before ++ r ∷ p.after) = ap (λ (rs : List Read). count_by {X = Read} (λ x. x.request == r.request) rs) p.is in
-    omega arith
-
-abbrev AreApart : List Read → Type 0
-AreApart reads = (k : ℕ) → count_by (λ (r : Read). r.request == k) reads ≤ 1
-
-apart-rest : (x : Read) (reads : List Read) → AreApart (x ∷ reads) → AreApart reads
-apart-rest x reads apart = λ k.
-    let all : count_by {X = Read} (λ r. r.request == k) (x ∷ reads) ≡ one_if (x.request == k) + count_by {X = Read} (λ r. r.request == k) reads = count-cons {X = Read} (λ r. r.request == k) x reads in
-    let most : count_by {X = Read} (λ r. r.request == k) (x ∷ reads) ≤ 1 = apart k in
-    omega arith
-
-apart-other : (x r : Read) (reads : List Read) → AreApart (x ∷ reads) → IsPlaced r reads → (x.request == r.request) ≡ false
-apart-other x r reads apart p =
-    let all : count_by {X = Read} (λ y. y.request == r.request) (x ∷ reads) ≡ one_if (x.request == r.request) + count_by {X = Read} (λ y. y.request == r.request) reads = count-cons {X = Read} (λ y. y.request == r.request) x reads in
-    let most : count_by {X = Read} (λ y. y.request == r.request) (x ∷ reads) ≤ 1 = apart r.request in
-    let there : 1 ≤ count_by {X = Read} (λ y. y.request == r.request) reads = count-placed r reads p in
-    let none : one_if (x.request == r.request) ≡ 0 = omega arith in
-    grind (arith, nat_tests)
-
 -- the read that is found is the first of its number
-pub placed : (request : ℕ) (reads : List Read) (r : Read) → ((k : ℕ) → count_by (λ (r : Read). r.request == k) reads ≤ 1)
+pub placed : (request : ℕ) (reads : List Read) (r : Read) → AreApart (λ (y : Read). y.request) reads
     → find (λ r. (r.request == request) && is_sent r.progress) reads ≡ Some r → IsPlaced r reads
 placed request [] r apart found = absurd (cc)
 placed request (x ∷ reads) r apart found =
     on_if (λ (o : Option Read). o ≡ Some r → IsPlaced r (x ∷ reads)) ((x.request == request) && is_sent x.progress) (Some x) (find (λ r. (r.request == request) && is_sent r.progress) reads)
     (λ is now. let same : x ≡ r = cc in subst (λ (y : Read). IsPlaced y (x ∷ reads)) same (placed-first x reads))
     (λ isnt now.
-    let p = placed request reads r (apart-rest x reads apart) now in
-    placed-later r x reads (apart-other x r reads apart p) p)
+    let p = placed request reads r (apart-rest (λ y. y.request) x reads apart) now in
+    placed-later r x reads (apart-other (λ y. y.request) x r p.before p.after (subst (λ (rs : List Read). AreApart (λ y. y.request) (x ∷ rs)) p.is apart)) p)
     found
 
 -- what is changed at a read that is placed
@@ -164,11 +131,6 @@ count-placed-without p r reads at =
     let is : count_by p (without_read r.request reads) ≡ count_by p (at.before ++ at.after) = ap (λ (rs : List Read). count_by p rs) at.without in
     omega arith
 
-pub all-without : (P : Read → Type 0) (q : ℕ) (reads : List Read) → AllByRecursion P reads → AllByRecursion P (without_read q reads)
-all-without P q [] a = tt
-all-without P q (r ∷ reads) a =
-    on_if (λ (rs : List Read). AllByRecursion P rs) (r.request == q) reads (r ∷ without_read q reads) (λ is. a.1) (λ isnt. (a.0, all-without P q reads a.1))
-
 pub length-without : (q : ℕ) (reads : List Read) → length (without_read q reads) ≤ length reads
 length-without q [] = omega arith
 length-without q (r ∷ reads) =
@@ -189,7 +151,7 @@ none-held (r ∷ reads) none =
     let zero_all : count_by (held_with r.request) (r ∷ reads) ≡ 0 = none r.request in
     let zero_one : one_if (held_with r.request r) ≡ 0 = omega arith in
     grind arith) in
-    let same : (r.request == r.request) ≡ true = eqb-same r.request in (
+    let same : (r.request == r.request) ≡ true = itself r.request in (
       grind arith,
       none-held reads (λ k.
           let all : count_by (held_with k) (r ∷ reads) ≡ one_if (held_with k r) + count_by (held_with k) reads = count-cons (held_with k) r reads in

@@ -25,10 +25,10 @@ use Rattle.ccr_model.specs.Settled.{is_settled}
 use Rattle.ccr_model.specs.Step.{step, woken, searched_at}
 use Rattle.ccr_model.specs.Past.{Past, start_past}
 use Rattle.ccr_law_base.proofs.Cases.{on_if, on_guards}
-use Rattle.ccr_law_tasks.proofs.Sums.{all-append}
 use Rattle.ccr_model.specs.Operations.{live}
 use Rattle.ccr_model.specs.Stores.{held}
 use Rattle.ccr_law_base.specs.Events.{past_by}
+use Rattle.ccr_law_base.proofs.Lists.{All-append}
 use Rattle.ccr_law_tasks.specs.GoodFollowers.{IsRunOf, BringRuns}
 use Rattle.ccr_law_tasks.proofs.Sending.{AreRuns, wake-sends, leader-receives, settling-sends, write-sends, replicate-sends, ack-sends, sync-sends, fail_copy-sends, add_copy-sends, flush-sends, merge-sends, follower_promote-sends, resync-sends, leader_promote-sends, leader_fail_copy-sends, clock-sends, expire-sends, close-sends, leader_status-sends}
 use Rattle.ccr_law_tasks.proofs.FollowerSending.{receive-sends, lose-sends, tick-sends, follower_clock-sends, lose_write-sends, take-sends, apply-sends, written-sends, renew-sends, pause-sends, resume-sends, restart-sends, unfollow-sends, follower_add_copy-sends, follower_status-sends}
@@ -41,7 +41,7 @@ abbrev flying : State → List Frame → State
 flying s flight = record s { flight = flight }
 
 joined : (flight sent : List Frame) → AreRuns flight → AreRuns sent → AreRuns (flight ++ sent)
-joined flight sent a b = all-append (λ (m : Frame). IsRunOf m.content) flight sent a b
+joined flight sent a b = All-append (λ (m : Frame). IsRunOf m.content) flight sent a b
 
 all-take : {X : Type 0} (P : X → Type 0) (i : ℕ) (xs : List X) → AllByRecursion P xs → AllByRecursion P (take i xs)
 all-take P zero [] a = tt

@@ -27,8 +27,8 @@ use Rattle.ccr_model.specs.Leaders.{Leader, KeptRequest, Poll, Session, without_
 use Rattle.ccr_model.specs.LeaderRows.{conflicts, all_hold, lease_answer, with_due_answers, answering_kept, settling_requests, write_row, leader_promote_row, resync_row, leader_fail_copy_row, leader_clock_row, expire_row, close_sessions_row, leader_status_row}
 use Rattle.ccr_model.specs.LeaderFrames.{answer_to, read_ops, answer_read, has_to_wait, read_row, wake_row, with_new_lease, answer_or_keep, lease_add_row, lease_renew_row, lease_remove_row, session_open_row, chunk_row, receive_row, hears, leader_receive, with_leases, answer_lease}
 use Rattle.ccr_law_base.proofs.Cases.{on_if, on_guards}
+use Rattle.ccr_law_base.proofs.Lists.{All-append, All-find}
 use Rattle.ccr_law_tasks.specs.GoodFollowers.{IsRunOf}
-use Rattle.ccr_law_tasks.proofs.Sums.{all-append, all-find}
 
 -- each reply to a read among these messages has consecutive numbers
 abbrev pub AreRuns : List Frame → Type 0
@@ -47,7 +47,7 @@ before-none ops (suc k) from =
     (elim (op_at from ops) as (λ (found : Option Operation). op_at from ops ≡ found → IsRun from (before_none (found ∷ rest))) [
       | None ↦ λ is. tt
       | Some op ↦ λ is.
-          let at = all-find (λ (op : Operation). Unit {0}) (λ op. op.seq == from) ops op (any-ops ops) is in
+          let at = All-find (λ (op : Operation). Unit {0}) (λ op. op.seq == from) ops op (any-ops ops) is in
           (eqb-true op.seq from at.1, before-none ops k (from + 1))
     ]) refl
 
@@ -101,7 +101,7 @@ answer-sends s (k ∷ kept) =
     (on_if IsRunOf k.existed (contents.LeaseAnswer results.Exists (greatest_floor s)) (contents.LeaseAdded (greatest_floor s)) (λ is. tt) (λ isnt. tt), answer-sends s kept)
 
 due-sends : (o : Outcome Leader) → AreRuns o.sent → AreRuns (with_due_answers o).sent
-due-sends o runs = all-append (λ (m : Frame). IsRunOf m.content) o.sent (map {A = KeptRequest} {B = Frame} (lease_answer o.next.copies) (filter (λ k. all_hold k.id o.next.copies) o.next.kept)) runs
+due-sends o runs = All-append (λ (m : Frame). IsRunOf m.content) o.sent (map {A = KeptRequest} {B = Frame} (lease_answer o.next.copies) (filter (λ k. all_hold k.id o.next.copies) o.next.kept)) runs
     (answer-sends o.next.copies (filter (λ k. all_hold k.id o.next.copies) o.next.kept))
 
 answering-sends : (reply : Reply) (o : Outcome Leader) → AreRuns o.sent → AreRuns (answering_kept reply o).sent

@@ -1,33 +1,14 @@
 -- Lemmas on lists: sums and counts, and what holds of each element.
-use Rattle.std.specs.List.{AllByRecursion, filter, find, sum_by, count_by}
-use Rattle.std.proofs.Common.{◌≡◌, ℕ, ◌+◌, ◌≤◌, Bool, true, cond, List, [], ◌∷◌, ◌++◌, length, Option, Some, refl, subst, arith}
+use Rattle.std.specs.List.{filter, sum_by, count_by}
+use Rattle.std.proofs.Common.{◌≡◌, ℕ, ◌+◌, ◌≤◌, ◌==◌, Bool, false, cond, List, [], ◌∷◌, ◌++◌, length, refl, ap, arith}
 use Rattle.std.proofs.lemmas.List.Sums.{sum_by-cons, sum_by-append}
+use Rattle.std.proofs.lemmas.Bool.Decides.{nat_tests}
 use Rattle.ccr_law_base.proofs.Cases.{on_if}
+use Rattle.ccr_law_base.proofs.Tests.{itself}
 
 -- one, where it is true
 abbrev pub one_if : Bool → ℕ
 one_if b = cond b 1 0
-
-pub all-append : {X : Type 0} (P : X → Type 0) (xs ys : List X) → AllByRecursion P xs → AllByRecursion P ys → AllByRecursion P (xs ++ ys)
-all-append P [] ys a b = b
-all-append P (x ∷ xs) ys a b = (a.0, all-append P xs ys a.1 b)
-
-pub all-front : {X : Type 0} (P : X → Type 0) (xs ys : List X) → AllByRecursion P (xs ++ ys) → AllByRecursion P xs
-all-front P [] ys a = tt
-all-front P (x ∷ xs) ys a = (a.0, all-front P xs ys a.1)
-
-pub all-rest : {X : Type 0} (P : X → Type 0) (xs ys : List X) → AllByRecursion P (xs ++ ys) → AllByRecursion P ys
-all-rest P [] ys a = a
-all-rest P (x ∷ xs) ys a = all-rest P xs ys a.1
-
-pub all-filter : {X : Type 0} (P : X → Type 0) (test : X → Bool) (xs : List X) → AllByRecursion P xs → AllByRecursion P (filter test xs)
-all-filter P test [] a = tt
-all-filter {X} P test (x ∷ xs) a =
-    on_if (λ (ys : List X). AllByRecursion P ys) (test x) (x ∷ filter test xs) (filter test xs) (λ is. (a.0, all-filter P test xs a.1)) (λ isnt. all-filter P test xs a.1)
-
-pub all-more : {X : Type 0} (P Q : X → Type 0) → ((x : X) → P x → Q x) → (xs : List X) → AllByRecursion P xs → AllByRecursion Q xs
-all-more P Q f [] a = tt
-all-more P Q f (x ∷ xs) a = (f x a.0, all-more P Q f xs a.1)
 
 pub sum-filter-le : {X : Type 0} (f : X → ℕ) (test : X → Bool) (xs : List X) → sum_by f (filter test xs) ≤ sum_by f xs
 sum-filter-le f test [] = omega arith
@@ -60,10 +41,31 @@ count-append p xs ys = sum_by-append (λ x. one_if (p x)) xs ys
 pub count-one : {X : Type 0} (p : X → Bool) (x : X) → count_by p (x ∷ []) ≡ one_if (p x)
 count-one p x = let whole : count_by p (x ∷ []) ≡ one_if (p x) + count_by p [] = count-cons p x [] in omega arith
 
-pub all-find : {X : Type 0} (P : X → Type 0) (test : X → Bool) (xs : List X) (x : X) → AllByRecursion P xs → find test xs ≡ Some x → P x × (test x ≡ true)
-all-find P test [] x a found = absurd (cc)
-all-find {X} P test (y ∷ xs) x a found =
-    on_if (λ (o : Option X). o ≡ Some x → P x × (test x ≡ true)) (test y) (Some y) (find test xs)
-    (λ is now. let same : y ≡ x = cc in subst (λ (z : X). P z × (test z ≡ true)) same (a.0, is))
-    (λ isnt now. all-find P test xs x a.1 now)
-    found
+-- ---- numbers that stand once
+
+-- no two of them have a number in common
+abbrev pub AreApart : {X : Type 0} → (X → ℕ) → List X → Type 0
+AreApart number xs = (k : ℕ) → count_by (λ x. number x == k) xs ≤ 1
+
+pub apart-rest : {X : Type 0} (number : X → ℕ) (x : X) (xs : List X) → AreApart number (x ∷ xs) → AreApart number xs
+apart-rest {X} number x xs apart = λ k.
+    let all : count_by {X = X} (λ y. number y == k) (x ∷ xs) ≡ one_if (number x == k) + count_by {X = X} (λ y. number y == k) xs = count-cons {X = X} (λ y. number y == k) x xs in
+    let most : count_by {X = X} (λ y. number y == k) (x ∷ xs) ≤ 1 = apart k in
+    omega arith
+
+-- one that is there counts for its number
+pub count-among : {X : Type 0} (number : X → ℕ) (before after : List X) (x : X) → 1 ≤ count_by (λ y. number y == number x) (before ++ x ∷ after)
+count-among {X} number before after x =
+    let split : count_by {X = X} (λ y. number y == number x) (before ++ x ∷ after) ≡ count_by {X = X} (λ y. number y == number x) before + count_by {X = X} (λ y. number y == number x) (x ∷ after) = count-append {X = X} (λ y. number y == number x) before (x ∷ after) in
+    let here : count_by {X = X} (λ y. number y == number x) (x ∷ after) ≡ one_if (number x == number x) + count_by {X = X} (λ y. number y == number x) after = count-cons {X = X} (λ y. number y == number x) x after in
+    let one : one_if (number x == number x) ≡ 1 = ap one_if (itself (number x)) in
+    omega arith
+
+-- so one before them has another number
+pub apart-other : {X : Type 0} (number : X → ℕ) (x y : X) (before after : List X) → AreApart number (x ∷ before ++ y ∷ after) → (number x == number y) ≡ false
+apart-other {X} number x y before after apart =
+    let all : count_by {X = X} (λ z. number z == number y) (x ∷ before ++ y ∷ after) ≡ one_if (number x == number y) + count_by {X = X} (λ z. number z == number y) (before ++ y ∷ after) = count-cons {X = X} (λ z. number z == number y) x (before ++ y ∷ after) in
+    let most : count_by {X = X} (λ z. number z == number y) (x ∷ before ++ y ∷ after) ≤ 1 = apart (number y) in
+    let there : 1 ≤ count_by {X = X} (λ z. number z == number y) (before ++ y ∷ after) = count-among number before after y in
+    let none : one_if (number x == number y) ≡ 0 = omega arith in
+    grind (arith, nat_tests)

@@ -36,9 +36,9 @@ use Rattle.ccr_model.specs.Past.{Line, Past, WrittenBatch, written_after}
 use Rattle.ccr_model.specs.Fit.{IsFitEvent}
 use Rattle.ccr_model.specs.FrameFacts.{IsCommitted, Reading, reading_in, reading_of, named_follower, BringsAsAsked, IsTrueContent, IsTrueFrame, AreTrueFrames}
 use Rattle.ccr_law_base.proofs.Cases.{on_if, on_guards}
+use Rattle.ccr_law_base.proofs.Lists.{All-weaker}
 use Rattle.ccr_law_tasks.specs.GoodTask.{IsLater}
 use Rattle.ccr_law_tasks.specs.GoodFollowers.{IsGoodFollower, AreGoodFollowers, IsRunOf, BringRuns}
-use Rattle.ccr_law_tasks.proofs.Sums.{all-more}
 use Rattle.ccr_law_tasks.proofs.Lines.{committed-later}
 use Rattle.ccr_law_tasks.proofs.TaskRows.{begun_after, RowKeeps, EndKeeps, ended_with, IsTrueAnswer, copies-row, receive-row, lose-row, tick-row, clock-row, lose_write-row, take-row, apply-row, written-row, renew-row, pause-row, resume-row, restart-row, unfollow-row, add_copy-row, status-row}
 use Rattle.ccr_law_tasks.proofs.FollowerLists.{GoodAfter, none-changed, one-changed, one-made}
@@ -100,7 +100,7 @@ answer-true p next uuid request t r (contents.ReadReply from global ops) later t
   sent = sent;
   brings = subst (λ (o : Option Reading). IfSome o (BringsAsAsked from ops)) reading truth.1;
   run = run;
-  committed = all-more (IsCommitted p.line) (IsCommitted next) (committed-later p.line next later) ops truth.0;
+  committed = All-weaker (IsCommitted p.line) (IsCommitted next) (committed-later p.line next later) ops truth.0;
 }
 answer-true p next uuid request t r _ later truth run reading sent = tt
 

@@ -23,9 +23,9 @@ use Rattle.ccr_model.specs.Followers.{Follower, Work, restoring, replicating, bo
 use Rattle.ccr_model.specs.FollowerRows.{Sent, does, with_task, with_copies, task_of, restore_done, restore_heard, hear_read, task_heard, work_hears, follower_receive_row, task_lost, bootstrap_lost, lose_row, tick_row, follower_clock_row, sent_write, lose_write_row, take_row, new_in, applied, is_other, apply_row, lacks, write_done, written_row, lease_request, needed_from, renew_row, pause_row, is_paused, task_anew, resume_row, restart_row, unfollow_row, follower_add_copy_row, follower_status_row}
 use Rattle.ccr_model.specs.Past.{Line, WrittenBatch}
 use Rattle.ccr_law_base.proofs.Cases.{on_if, on_guards}
+use Rattle.ccr_law_base.proofs.Lists.{All-append, All-weaker}
 use Rattle.ccr_law_tasks.specs.GoodTask.{IsGoodTask, IsTrueReply}
 use Rattle.ccr_law_tasks.specs.GoodFollowers.{IsGoodWork, IsGoodFollower}
-use Rattle.ccr_law_tasks.proofs.Sums.{all-append, all-more}
 use Rattle.ccr_law_tasks.proofs.WriteLists.{written-none}
 use Rattle.ccr_law_tasks.proofs.Calls.{started-good, started-epoch, reply-good, read_lost-good, write_lost-good, ticked-good, write_ended-good, stopped-good, rested-good, calm-good, drawn-good}
 use Rattle.ccr_law_tasks.proofs.SameEpoch.{filled-epoch, ticked-epoch}
@@ -103,12 +103,12 @@ anew line begun_at written s copies count history follower request same good new
     let next : Follower = record s { work = replicating (started s.params count (s.epoch + 1) history follower request).next; epoch = s.epoch + 1; copies = copies } in
     let later : (s.epoch + 1 == s.epoch) ≡ false = grind (arith, nat_tests) in
     let begins : begun_after begun_at s next ≡ count = ap (λ (b : Bool). if b then begun_at else copies.primary.global) later ∙ same in
-    let below : AllByRecursion (λ (w : WrittenBatch). w.epoch < s.epoch + 1) written = all-more (λ (w : WrittenBatch). w.epoch ≤ s.epoch) (λ (w : WrittenBatch). w.epoch < s.epoch + 1) (λ w low. omega arith) written good.ended in
+    let below : AllByRecursion (λ (w : WrittenBatch). w.epoch < s.epoch + 1) written = All-weaker (λ (w : WrittenBatch). w.epoch ≤ s.epoch) (λ (w : WrittenBatch). w.epoch < s.epoch + 1) (λ w low. omega arith) written good.ended in
     let task : IsGoodTask line (started s.params count (s.epoch + 1) history follower request).next count written =
     started-good line s.params count (s.epoch + 1) history follower request written good.params (written-none (s.epoch + 1) written below) in
     let whole : IsGoodFollower line count written next = record {
       params = good.params;
-      ended = all-more (λ (w : WrittenBatch). w.epoch ≤ s.epoch) (λ (w : WrittenBatch). w.epoch ≤ s.epoch + 1) (λ w low. omega arith) written good.ended;
+      ended = All-weaker (λ (w : WrittenBatch). w.epoch ≤ s.epoch) (λ (w : WrittenBatch). w.epoch ≤ s.epoch + 1) (λ w low. omega arith) written good.ended;
       work = (task, started-epoch s.params count (s.epoch + 1) history follower request);
     } in
     subst (λ (x : Follower). IsGoodFollower line (begun_after begun_at s x) written x) (sym is)
@@ -302,7 +302,7 @@ write_done-row line begun_at written s number w None of good =
     let epoch : (write_ended w.task w.write).next.epoch ≡ w.task.epoch = filled-epoch (record w.task { retry = 0; writes = without_write w.write.number w.task.writes }) in
     same-epoch line begun_at own s next refl (record {
       params = good.params;
-      ended = all-append (λ (x : WrittenBatch). x.epoch ≤ s.epoch) written (record { epoch = s.epoch; batch = w.write.batch } ∷ []) good.ended (omega arith, tt);
+      ended = All-append (λ (x : WrittenBatch). x.epoch ≤ s.epoch) written (record { epoch = s.epoch; batch = w.write.batch } ∷ []) good.ended (omega arith, tt);
       work = (task, epoch ∙ now.1);
     })
 

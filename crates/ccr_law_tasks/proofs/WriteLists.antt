@@ -10,8 +10,10 @@ use Rattle.ccr_model.specs.Requests.{is_sent}
 use Rattle.ccr_model.specs.Tasks.{Write, changed_write, without_write}
 use Rattle.ccr_model.specs.TaskFacts.{batches_of, times_in, written_in}
 use Rattle.ccr_model.specs.Past.{WrittenBatch}
+use Rattle.ccr_law_base.proofs.Tests.{itself}
 use Rattle.ccr_law_base.proofs.Cases.{on_if}
-use Rattle.ccr_law_tasks.proofs.Sums.{one_if, count-cons, count-append, all-append, all-front, all-rest}
+use Rattle.ccr_law_base.proofs.Lists.{All-append, All-append_back, All-append_front}
+use Rattle.ccr_law_tasks.proofs.Sums.{one_if, count-cons, count-append, AreApart, apart-rest, apart-other}
 
 -- ---- a change that leaves numbers and batches
 
@@ -101,15 +103,12 @@ pub record IsWritePlaced (w : Write) (writes : List Write) : Type 0 where
   pub is : writes ≡ before ++ w ∷ after
   pub without : without_write w.number writes ≡ before ++ after
 
-eqb-same : (n : ℕ) → (n == n) ≡ true
-eqb-same n = grind (arith, nat_tests)
-
 placed-first : (w : Write) (writes : List Write) → IsWritePlaced w (w ∷ writes)
 placed-first w writes = record {
   before = [];
   after = writes;
   is = refl;
-  without = ap (λ (b : Bool). if b then writes else w ∷ without_write w.number writes) (eqb-same w.number);
+  without = ap (λ (b : Bool). if b then writes else w ∷ without_write w.number writes) (itself w.number);
 }
 
 placed-later : (w x : Write) (writes : List Write) → (x.number == w.number) ≡ false → IsWritePlaced w writes → IsWritePlaced w (x ∷ writes)
@@ -123,38 +122,16 @@ placed-later w x writes other p = record {
       (cc);
 }
 
-count-placed : (w : Write) (writes : List Write) → IsWritePlaced w writes → 1 ≤ count_by (λ (x : Write). x.number == w.number) writes
-count-placed w writes p =
-    let split : count_by {X = Write} (λ x. x.number == w.number) (p.before ++ w ∷ p.after) ≡ count_by {X = Write} (λ x. x.number == w.number) p.before + count_by {X = Write} (λ x. x.number == w.number) (w ∷ p.after) = count-append {X = Write} (λ x. x.number == w.number) p.before (w ∷ p.after) in
-    let here : count_by {X = Write} (λ x. x.number == w.number) (w ∷ p.after) ≡ one_if (w.number == w.number) + count_by {X = Write} (λ x. x.number == w.number) p.after = count-cons {X = Write} (λ x. x.number == w.number) w p.after in
-    let one : one_if (w.number == w.number) ≡ 1 = ap one_if (eqb-same w.number) in
-    let same : count_by {X = Write} (λ x. x.number == w.number) writes ≡ count_by {X = Write} (λ x. x.number == w.number) (p.before ++ w ∷ p.after) = ap (λ (ws : List Write). count_by {X = Write} (λ x. x.number == w.number) ws) p.is in
-    omega arith
-
-apart-rest : (x : Write) (writes : List Write) → ((k : ℕ) → count_by (λ (w : Write). w.number == k) (x ∷ writes) ≤ 1) → (k : ℕ) → count_by (λ (w : Write). w.number == k) writes ≤ 1
-apart-rest x writes apart k =
-    let all : count_by {X = Write} (λ w. w.number == k) (x ∷ writes) ≡ one_if (x.number == k) + count_by {X = Write} (λ w. w.number == k) writes = count-cons {X = Write} (λ w. w.number == k) x writes in
-    let most : count_by {X = Write} (λ w. w.number == k) (x ∷ writes) ≤ 1 = apart k in
-    omega arith
-
-apart-other : (x w : Write) (writes : List Write) → ((k : ℕ) → count_by (λ (w : Write). w.number == k) (x ∷ writes) ≤ 1) → IsWritePlaced w writes → (x.number == w.number) ≡ false
-apart-other x w writes apart p =
-    let all : count_by {X = Write} (λ y. y.number == w.number) (x ∷ writes) ≡ one_if (x.number == w.number) + count_by {X = Write} (λ y. y.number == w.number) writes = count-cons {X = Write} (λ y. y.number == w.number) x writes in
-    let most : count_by {X = Write} (λ y. y.number == w.number) (x ∷ writes) ≤ 1 = apart w.number in
-    let there : 1 ≤ count_by {X = Write} (λ y. y.number == w.number) writes = count-placed w writes p in
-    let none : one_if (x.number == w.number) ≡ 0 = omega arith in
-    grind (arith, nat_tests)
-
 -- the write that is found is the first of its number
-pub write-placed : (number : ℕ) (writes : List Write) (w : Write) → ((k : ℕ) → count_by (λ (w : Write). w.number == k) writes ≤ 1)
+pub write-placed : (number : ℕ) (writes : List Write) (w : Write) → AreApart (λ (y : Write). y.number) writes
     → find (λ w. (w.number == number) && is_sent w.progress) writes ≡ Some w → IsWritePlaced w writes
 write-placed number [] w apart found = absurd (cc)
 write-placed number (x ∷ writes) w apart found =
     on_if (λ (o : Option Write). o ≡ Some w → IsWritePlaced w (x ∷ writes)) ((x.number == number) && is_sent x.progress) (Some x) (find (λ w. (w.number == number) && is_sent w.progress) writes)
     (λ is now. let same : x ≡ w = cc in subst (λ (y : Write). IsWritePlaced y (x ∷ writes)) same (placed-first x writes))
     (λ isnt now.
-    let p = write-placed number writes w (apart-rest x writes apart) now in
-    placed-later w x writes (apart-other x w writes apart p) p)
+    let p = write-placed number writes w (apart-rest (λ y. y.number) x writes apart) now in
+    placed-later w x writes (apart-other (λ y. y.number) x w p.before p.after (subst (λ (ws : List Write). AreApart (λ y. y.number) (x ∷ ws)) p.is apart)) p)
     found
 
 pub times-without : (n : ℕ) (w : Write) (writes : List Write) → IsWritePlaced w writes
@@ -194,8 +171,8 @@ pub batches-without : (P : Operation → Type 0) (q : ℕ) (writes : List Write)
 batches-without P q [] a = tt
 batches-without P q (w ∷ writes) a =
     on_if (λ (ws : List Write). AllByRecursion P (batches_of ws)) (w.number == q) writes (w ∷ without_write q writes)
-    (λ is. all-rest P w.batch (batches_of writes) a)
-    (λ isnt. all-append P w.batch (batches_of (without_write q writes)) (all-front P w.batch (batches_of writes) a) (batches-without P q writes (all-rest P w.batch (batches_of writes) a)))
+    (λ is. All-append_back P w.batch (batches_of writes) a)
+    (λ isnt. All-append P w.batch (batches_of (without_write q writes)) (All-append_front P w.batch (batches_of writes) a) (batches-without P q writes (All-append_back P w.batch (batches_of writes) a)))
 
 -- ---- ended writes
 
@@ -204,7 +181,7 @@ pub times-written : (n epoch : ℕ) (batch : List Operation) (written : List Wri
     → times_in n (written_in epoch (written ++ record { epoch = epoch; batch = batch } ∷ [])) ≡ times_in n (written_in epoch written) + times_in n batch
 times-written n epoch batch [] =
     let one : WrittenBatch = record { epoch = epoch; batch = batch } in
-    let is : written_in epoch (one ∷ []) ≡ batch ++ [] = ap (λ (b : Bool). flat_map {X = WrittenBatch} {A = Operation} (λ w. w.batch) (if b then one ∷ [] else [])) (eqb-same epoch) in
+    let is : written_in epoch (one ∷ []) ≡ batch ++ [] = ap (λ (b : Bool). flat_map {X = WrittenBatch} {A = Operation} (λ w. w.batch) (if b then one ∷ [] else [])) (itself epoch) in
     let same : times_in n (written_in epoch (one ∷ [])) ≡ times_in n batch = ap (times_in n) (is ∙ append-nil batch) in
     omega arith
 times-written n epoch batch (x ∷ written) =
