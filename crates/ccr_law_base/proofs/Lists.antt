@@ -1,11 +1,17 @@
 -- Lemmas on lists: what holds of each element, look-ups, and changes of one element.
 use Rattle.std.specs.List.{AllByRecursion, list_any, range_with_len}
+use Rattle.std.specs.Option.{option_map_or}
 use Rattle.std.specs.Prelude.{find, filter, cond, is_some, slice_get, slice_set, remove}
 use Rattle.std.specs.Str.{bytes_eq}
-use Rattle.std.proofs.Common.{◌≡◌, ℕ, zero, suc, ◌+◌, ◌-◌, ◌<◌, ◌==◌, ◌&&◌, ◌||◌, if◌then◌else◌, Bool, true, false, not, nat_lt, Option, Some, None, List, [], ◌∷◌, ◌++◌, map, length, take, drop, refl, ap, subst, arith}
+use Rattle.std.proofs.Common.{◌≡◌, ℕ, zero, suc, ◌+◌, ◌-◌, ◌≤◌, ◌<◌, max, inl, inr, ◌==◌, ◌&&◌, ◌||◌, if◌then◌else◌, Bool, true, false, not, nat_lt, Option, Some, None, List, [], ◌∷◌, ◌++◌, map, length, take, drop, refl, ap, subst, arith}
 use Rattle.std.proofs.lemmas.Bool.Decides.{nat_tests}
+use Rattle.std.proofs.lemmas.Slice.Eq.{bytes_eq-Decides}
+use Rattle.ccr_op.specs.Operation.{Operation}
 use Rattle.ccr_model.specs.Copies.{Copy, Replica, replaced, without, changed_replica}
-use Rattle.ccr_model.specs.Tasks.{Read, changed_read, without_read, by_request}
+use Rattle.ccr_model.specs.Answers.{IsIn}
+use Rattle.ccr_model.specs.Operations.{is_empty, with_op, with_ops}
+use Rattle.ccr_model.specs.Restores.{ChunkAsked, without_ask}
+use Rattle.ccr_model.specs.Tasks.{Read, changed_read, without_read, by_request, end_of_ops}
 use Rattle.ccr_model.specs.Leaders.{Poll, without_poll}
 use Rattle.ccr_law_base.proofs.Cases.{on_if}
 
@@ -22,6 +28,10 @@ All-every P every (x ∷ xs) = (every x, All-every P every xs)
 pub All-both : {X : Type 0} (P Q : X → Type 0) (xs : List X) → AllByRecursion P xs → AllByRecursion Q xs → AllByRecursion (λ x. P x × Q x) xs
 All-both P Q [] ps qs = tt
 All-both P Q (x ∷ xs) ps qs = ((ps.0, qs.0), All-both P Q xs ps.1 qs.1)
+
+pub All-from_both : {X : Type 0} (P Q R : X → Type 0) → ((x : X) → P x → Q x → R x) → (xs : List X) → AllByRecursion P xs → AllByRecursion Q xs → AllByRecursion R xs
+All-from_both P Q R step [] p q = tt
+All-from_both P Q R step (x ∷ xs) p q = (step x p.0 q.0, All-from_both P Q R step xs p.1 q.1)
 
 pub All-append : {X : Type 0} (P : X → Type 0) (xs ys : List X) → AllByRecursion P xs → AllByRecursion P ys → AllByRecursion P (xs ++ ys)
 All-append P [] ys ps qs = qs
@@ -79,6 +89,11 @@ pub All-places : {X : Type 0} (P : X → Type 0) (xs : List X) → ((n : ℕ) (x
 All-places P [] each = tt
 All-places P (x ∷ xs) each = (each zero x refl, All-places P xs (λ n y at. each (suc n) y at))
 
+pub All-in : {X : Type 0} (P : X → Type 0) (xs : List X) (x : X) → AllByRecursion P xs → IsIn xs x → P x
+All-in P [] x all there = absurd there
+All-in P (y ∷ xs) x all (inl e) = subst P e all.0
+All-in P (y ∷ xs) x all (inr there) = All-in P xs x all.1 there
+
 pub All-drop : {X : Type 0} (P : X → Type 0) (n : ℕ) (xs : List X) → AllByRecursion P xs → AllByRecursion P (drop n xs)
 All-drop P zero [] all = tt
 All-drop P (suc n) [] all = tt
@@ -105,10 +120,33 @@ find_none test (y ∷ xs) none =
     on_if (λ (o : Option _). o ≡ None → AllByRecursion (λ x. test x ≡ false) (y ∷ xs)) (test y) (Some y) (find test xs)
     (λ is at. cc) (λ isnt at. (isnt, find_none test xs at)) none
 
+pub find-front : {X : Type 0} (test : X → Bool) (xs more : List X) (x : X) → find test xs ≡ Some x → find test (xs ++ more) ≡ Some x
+find-front test [] more x at = cc
+find-front test (y ∷ xs) more x at =
+    (elim (test y) as (λ b. (if b then Some y else find test xs) ≡ Some x → (if b then Some y else find test (xs ++ more)) ≡ Some x) [
+      | true ↦ λ is. is
+      | false ↦ λ is. find-front test xs more x is
+    ]) at
+
 -- one is found where one passes
 pub found-any : {X : Type 0} (test : X → Bool) (xs : List X) → is_some (find test xs) ≡ list_any test xs
 found-any test [] = refl
 found-any test (x ∷ xs) = elim (test x) as (λ b. is_some (cond b (Some x) (find test xs)) ≡ (b || list_any test xs)) [ true ↦ refl | false ↦ found-any test xs ]
+
+pub get_within : {X : Type 0} (xs : List X) (n : ℕ) (x : X) → slice_get xs n ≡ Some x → n < length xs
+get_within [] n x at = absurd cc
+get_within (y ∷ xs) zero x at = omega arith
+get_within (y ∷ xs) (suc n) x at = let rest : n < length xs = get_within xs n x at in omega arith
+
+pub drop-zero : {X : Type 0} (xs : List X) → drop zero xs ≡ xs
+drop-zero [] = refl
+drop-zero (x ∷ xs) = refl
+
+pub length-filter-le : {X : Type 0} (test : X → Bool) (xs : List X) → length (filter test xs) ≤ length xs
+length-filter-le test [] = omega arith
+length-filter-le test (x ∷ xs) =
+    let rest : length (filter test xs) ≤ length xs = length-filter-le test xs in
+    on_if (λ (ys : List _). length ys ≤ length (x ∷ xs)) (test x) (x ∷ filter test xs) (filter test xs) (λ is. omega arith) (λ isnt. omega arith)
 
 -- what is set is there, and the others are as they were
 pub set-same : {X : Type 0} (xs : List X) (i : ℕ) (x y : X) → slice_get xs i ≡ Some x → slice_get (slice_set xs i y) i ≡ Some y
@@ -151,7 +189,35 @@ All-changed P Q copy change same changes (r ∷ rs) all =
     on_if (AllByRecursion Q) (r.copy.number == copy) (record r { copy = change r.copy } ∷ rs) (r ∷ changed_replica copy change rs)
     (λ is. (changes r is all.0, All-weaker P Q same rs all.1)) (λ isnt. (same r all.0, All-changed P Q copy change same changes rs all.1))
 
--- ---- changes of one read, and a poll that leaves
+-- ---- operations in the order of their numbers
+
+pub All-with_op : (P : Operation → Type 0) (op : Operation) (xs : List Operation) → P op → AllByRecursion P xs → AllByRecursion P (with_op op xs)
+All-with_op P op [] new all = (new, tt)
+All-with_op P op (x ∷ xs) new all =
+    on_if (AllByRecursion P) (nat_lt op.seq x.seq) (op ∷ x ∷ xs) (x ∷ with_op op xs) (λ is. (new, all)) (λ isnt. (all.0, All-with_op P op xs new all.1))
+
+pub All-with_ops : (P : Operation → Type 0) (more xs : List Operation) → AllByRecursion P more → AllByRecursion P xs → AllByRecursion P (with_ops more xs)
+All-with_ops P [] xs news all = all
+All-with_ops P (op ∷ more) xs news all = All-with_ops P more (with_op op xs) news.1 (All-with_op P op xs news.0 all)
+
+pub some_length : (ops : List Operation) → is_empty ops ≡ false → 1 ≤ length ops
+some_length [] some = cc
+some_length (op ∷ ops) some = omega arith
+
+pub end-up : (ops : List Operation) (n : ℕ) → n ≤ end_of_ops ops n
+end-up [] n = omega arith
+end-up (op ∷ ops) n = let rest : max n (op.seq + 1) ≤ end_of_ops ops (max n (op.seq + 1)) = end-up ops (max n (op.seq + 1)) in omega arith
+
+-- an operation is about an id where its id is that
+pub about_id : (id : List ℕ) (o : Option (List ℕ)) → option_map_or (λ own. bytes_eq own id) o false ≡ true → o ≡ Some id
+about_id id None is = cc
+about_id id (Some own) is = ap (λ (xs : List ℕ). Some xs) ((bytes_eq-Decides own id).0 is)
+
+pub id_about : (id : List ℕ) (o : Option (List ℕ)) → o ≡ Some id → option_map_or (λ own. bytes_eq own id) o false ≡ true
+id_about id None is = cc
+id_about id (Some own) is = (bytes_eq-Decides own id).1 (some_equal own id is)
+
+-- ---- changes of one read or one part, and a poll that leaves
 
 pub All-changed_read : (P : Read → Type 0) (request : ℕ) (change : Read → Read) → ((r : Read) → P r → P (change r)) → (reads : List Read)
     → AllByRecursion P reads → AllByRecursion P (changed_read request change reads)
@@ -170,6 +236,11 @@ All-by_request P r [] one all = (one, tt)
 All-by_request P r (x ∷ reads) one all =
     on_if (AllByRecursion P) (nat_lt r.request x.request) (r ∷ x ∷ reads) (x ∷ by_request r reads)
     (λ is. (one, all)) (λ isnt. (all.0, All-by_request P r reads one all.1))
+
+pub All-without_ask : (P : ChunkAsked → Type 0) (request : ℕ) (asks : List ChunkAsked) → AllByRecursion P asks → AllByRecursion P (without_ask request asks)
+All-without_ask P request [] all = tt
+All-without_ask P request (a ∷ asks) all =
+    on_if (AllByRecursion P) (a.request == request) asks (a ∷ without_ask request asks) (λ is. all.1) (λ isnt. (all.0, All-without_ask P request asks all.1))
 
 pub All-without_poll : (P : Poll → Type 0) (follower : List ℕ) (at : ℕ) (polls : List Poll) → AllByRecursion P polls → AllByRecursion P (without_poll follower at polls)
 All-without_poll P follower at [] all = tt

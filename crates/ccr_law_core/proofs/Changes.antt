@@ -13,7 +13,8 @@ use Rattle.ccr_model.specs.Past.{Line, rewritten}
 use Rattle.ccr_law_base.proofs.Cases.{on_if}
 use Rattle.ccr_law_core.specs.Cores.{PrimaryOk, ReplicaOk}
 use Rattle.ccr_law_base.proofs.Lists.{some_equal, any-range, slice_get-take, slice_get-append_front, slice_get-append_back}
-use Rattle.ccr_law_core.proofs.Sets.{or_false, and_false, canonical-marked, canonical-marked_all, canonical-kept, has-marked, has-marked_all, has-kept, has-below, count_reaches, count-marked, all_below, has-end, whole}
+use Rattle.ccr_law_core.proofs.Sets.{or_false, canonical-marked, canonical-marked_all, canonical-kept, has-marked, has-marked_all, has-kept, has-below, count_reaches, count-marked, all_below, has-end, whole}
+use Rattle.ccr_law_base.proofs.Tests.{and_false}
 
 -- ---- places of a list
 

@@ -1,6 +1,6 @@
 -- What each event of the leader's side makes of the claims on its copies and its line.
 use Rattle.std.specs.List.{fold}
-use Rattle.std.proofs.Common.{◌≡◌, ℕ, ◌+◌, ◌-◌, ◌<◌, ◌≤◌, ◌==◌, ◌||◌, max, Bool, true, false, not, nat_lt, if◌then◌else◌, Option, Some, None, List, [], ◌∷◌, ◌++◌, map, length, slice_get, refl, sym, ◌∙◌, ap, subst, arith}
+use Rattle.std.proofs.Common.{◌≡◌, ℕ, ◌+◌, ◌-◌, ◌<◌, ◌≤◌, ◌==◌, ◌||◌, max, Bool, true, false, nat_lt, if◌then◌else◌, Option, Some, None, List, [], ◌∷◌, ◌++◌, map, length, slice_get, refl, sym, ◌∙◌, ap, subst, arith}
 use Rattle.std.proofs.lemmas.Bool.Decides.{nat_tests}
 use Rattle.ccr_op.specs.Operation.{Operation}
 use Rattle.ccr_op.specs.declared.operation.Kind.TheVariants.{NoOp}
@@ -26,6 +26,7 @@ use Rattle.ccr_law_base.proofs.Lists.{All-weaker, All-both, All-push, All-map, A
 use Rattle.ccr_law_core.proofs.Replicas.{same_number, number_itself, gave-same, gave-other, given-aside, replaced-alone, Apart-replaced, Apart-without, others-without, Apart-map, Apart-push, Apart-changed, least_known-primary, least_known-each, least_known-replaced, least_known-changed}
 use Rattle.ccr_law_core.proofs.Changes.{some-of, some-within, replica-raised, primary-longer, replica-longer, replica-takes, replica-acked, replica-knowing, primary-promoted, replica-stale, replica-resynced, replica-next, replica-new}
 use Rattle.ccr_law_core.proofs.Sets.{or_false}
+use Rattle.std.proofs.lemmas.Bool.{not-false}
 
 -- the claims after an event, where this is what it comes to
 abbrev pub CoreAfter : Past → Event → Outcome State → Type 0
@@ -89,10 +90,6 @@ recounted line given number seen global replicas next ok = record {
 }
 
 -- ---- look-ups
-
-pub not_false : (b : Bool) → not b ≡ false → b ≡ true
-not_false true is = refl
-not_false false is = cc
 
 -- the primary was given what it has processed, and it is the line's
 pub primary_has : (line : Line) (ops : ℕ → Option Operation) (seen : Numbers) (global n : ℕ) → PrimaryOk line ops seen global → has seen n ≡ true
@@ -196,7 +193,7 @@ replicate_keeps p copy seq None is core = quiet p.line p.given p.state.leader.co
 replicate_keeps p copy seq (Some r) is core =
     on_guards (λ (o : Outcome Copies). CoreAfter p (events.Replicate sides.Leader copy seq) (at_copies p o)) p.state.leader.copies _ _
     (λ why. quiet p.line p.given p.state.leader.copies core)
-    (λ tests. replicated p copy seq r is core (not_false (has p.state.leader.copies.primary.seen seq) tests.1.0))
+    (λ tests. replicated p copy seq r is core (not-false (has p.state.leader.copies.primary.seen seq) tests.1.0))
   where
     replicated : (p : Past) (copy seq : ℕ) (r : Replica) → replica_of p.state.leader.copies copy ≡ Some r → IsCore p → has p.state.leader.copies.primary.seen seq ≡ true
         → Core (cut_at p.line p.state.leader.copies.primary.global) (gave p.given copy (gaining (p.given copy) seq (p.given p.state.leader.copies.primary.number seq)))
@@ -243,7 +240,7 @@ ack_keeps p copy (Some r) is core =
     recounted p.line p.given s.primary.number s.primary.seen s.primary.global (replaced copy new s.replicas) s.next
     (one_replaced p.line p.given s copy r new core is refl (λ f.
     replica-acked p.line s.primary.number s.next (p.given copy) r.copy.number r.copy.seen r.copy.global r.known r.resynced r.acked
-    core.rest.primary.full (not_false r.resynced tests.0) f.replica)))
+    core.rest.primary.full (not-false r.resynced tests.0) f.replica)))
 
 pub sync_keeps : (p : Past) (copy : ℕ) (found : Option Replica) → replica_of p.state.leader.copies copy ≡ found → IsCore p
     → CoreAfter p (events.Sync sides.Leader copy) (at_copies_settling p (sync_row p.state.leader.copies copy found))

@@ -10,14 +10,11 @@ use Rattle.ccr_model.specs.Copies.{greatest}
 use Rattle.ccr_model.specs.LeaderRows.{end_of, missing_numbers}
 use Rattle.ccr_law_base.proofs.Cases.{on_if}
 use Rattle.ccr_law_base.proofs.Lists.{any-range}
+use Rattle.ccr_law_base.proofs.Tests.{and_false}
 
 pub or_false : (b : Bool) → b ≡ (b || false)
 or_false true = refl
 or_false false = refl
-
-pub and_false : (b : Bool) → (b && false) ≡ false
-and_false true = refl
-and_false false = refl
 
 -- ---- the one form
 
@@ -94,6 +91,14 @@ count_absent s up = let out : list_any (λ j. j == s.count) s.above ≡ false = 
 
 pub has-below : (s : Numbers) (k : ℕ) → k < s.count → has s k ≡ true
 has-below s k lt = grind (arith, nat_tests)
+
+pub count_within : (s : Numbers) (bound : ℕ) → ((k : ℕ) → has s k ≡ true → k < bound) → s.count ≤ bound
+count_within s bound all =
+    let reach : bound < s.count → bound < bound = (λ lt. all bound (has-below s bound lt)) in
+    (elim (nat_lt bound s.count) as (λ c. nat_lt bound s.count ≡ c → s.count ≤ bound) [
+      | true ↦ λ is. (let lt : bound < s.count = grind (arith, nat_tests) in let no : bound < bound = reach lt in absurd (omega arith))
+      | false ↦ λ isnt. grind (arith, nat_tests)
+    ]) refl
 
 -- a set that has all numbers below a bound counts as far
 pub count_reaches : (s : Numbers) (bound : ℕ) → IsCanonical s → ((k : ℕ) → k < bound → has s k ≡ true) → bound ≤ s.count

@@ -9,17 +9,14 @@ use Rattle.ccr_model.specs.Restores.{Fetch, ChunkAsked, Chunk, places_of, change
 use Rattle.ccr_model.specs.Leaders.{Session}
 use Rattle.ccr_model.specs.LeaderFrames.{chunk_of}
 use Rattle.ccr_law_base.proofs.Cases.{on_if}
-use Rattle.ccr_law_base.proofs.Lists.{All-weaker, All-push, All-filter, some_equal}
+use Rattle.ccr_law_base.proofs.Lists.{All-weaker, All-push, All-filter, some_equal, All-without_ask}
 use Rattle.ccr_law_followers.specs.Fetches.{asks_for, is_part, is_covered, AskedApart, FetchOk}
+use Rattle.ccr_law_base.proofs.Tests.{or_true}
 
 -- ---- lists of requests
 
 abbrev pub is_asked : ℕ × ℕ → List ChunkAsked → Bool
 is_asked place asks = list_any (asks_for place) asks
-
-pub or_true : (b : Bool) → (b || true) ≡ true
-or_true true = refl
-or_true false = refl
 
 pub or_end : (a b c : Bool) → (a || (b || c)) ≡ ((a || b) || c)
 or_end true b c = refl
@@ -57,11 +54,6 @@ apart-changed request later (a ∷ asks) apart =
       All-changed_ask (λ (x : ChunkAsked). (x.request == a.request) ≡ false) request later (λ x h. h) asks apart.0,
       apart-changed request later asks apart.1,
     ))
-
-pub All-without_ask : (P : ChunkAsked → Type 0) (request : ℕ) (asks : List ChunkAsked) → AllByRecursion P asks → AllByRecursion P (without_ask request asks)
-All-without_ask P request [] all = tt
-All-without_ask P request (a ∷ asks) all =
-    on_if (AllByRecursion P) (a.request == request) asks (a ∷ without_ask request asks) (λ is. all.1) (λ isnt. (all.0, All-without_ask P request asks all.1))
 
 pub apart-without : (request : ℕ) (asks : List ChunkAsked) → AskedApart asks → AskedApart (without_ask request asks)
 apart-without request [] apart = tt

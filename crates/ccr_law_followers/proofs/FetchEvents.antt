@@ -24,27 +24,19 @@ use Rattle.ccr_model.specs.Past.{Past, start_past}
 use Rattle.ccr_model.specs.FrameFacts.{AreTrueFrames, IsTrueFrame, IsTrueContent, IsAsOpened, IsPartOf, IsWholePart, Fetching, fetching_at, fetching_in, fetching_of}
 use Rattle.ccr_law_base.specs.Events.{past_by}
 use Rattle.ccr_law_base.proofs.Cases.{on_if, on_guards}
-use Rattle.ccr_law_base.proofs.Lists.{All-weaker, All-at, some_equal}
+use Rattle.ccr_law_base.proofs.Lists.{All-weaker, All-at, some_equal, find-front}
 use Rattle.ccr_law_core.proofs.Replicas.{same_number}
 use Rattle.ccr_law_stores.specs.TrueStores.{IsTrueHistory}
 use Rattle.ccr_law_followers.specs.TrueCopies.{FetchesTruly, all_in}
 use Rattle.ccr_law_followers.specs.Fetches.{is_part, is_covered, FetchOk, StageOk, RestoreOk, WorkOk, IsWholeFetch, HasTrueFetches, SessionsHold, HasGoodRanges}
 use Rattle.ccr_law_followers.proofs.Join.{set_at}
 use Rattle.ccr_law_followers.proofs.Events.{push_new, push_old, drop_same, woken_same, search_same, searched_same}
-use Rattle.ccr_law_followers.proofs.Writes.{both_true}
 use Rattle.ccr_law_followers.proofs.Files.{fetched}
 use Rattle.ccr_law_followers.proofs.Restoring.{SaysTruly, restore-hears}
 use Rattle.ccr_law_followers.proofs.FetchRows.{WorkAfter, lose_work, tick_work, clock_work, lose_write_work, take_work, apply_work, written_work, add_copy_work, renew_work, pause_work, resume_work, restart_work, unfollow_work, status_work, receive_work}
+use Rattle.std.proofs.lemmas.Bool.{and_parts}
 
 -- ---- more sessions
-
-pub find-more : {X : Type 0} (test : X → Bool) (xs more : List X) (x : X) → find test xs ≡ Some x → find test (xs ++ more) ≡ Some x
-find-more test [] more x at = cc
-find-more test (y ∷ xs) more x at =
-    (elim (test y) as (λ b. (if b then Some y else find test xs) ≡ Some x → (if b then Some y else find test (xs ++ more)) ≡ Some x) [
-      | true ↦ λ is. is
-      | false ↦ λ is. find-more test xs more x is
-    ]) at
 
 pub work-later : (sessions more : List Session) (work : Work) → WorkOk sessions work → WorkOk (sessions ++ more) work
 work-later sessions more (replicating t) ok = tt
@@ -55,7 +47,7 @@ work-later sessions more (restoring r) ok = record { some = ok.some; stage = by_
     by_stage (opening a) is = tt
     by_stage (fetching f) is = record {
       session = is.session;
-      is_opened = find-more (λ (s : Session). s.number == f.session) sessions more is.session is.is_opened;
+      is_opened = find-front (λ (s : Session). s.number == f.session) sessions more is.session is.is_opened;
       same_count = is.same_count;
       same_sizes = is.same_sizes;
       whole = is.whole;
@@ -245,8 +237,8 @@ part_there session size place (c ∷ chunks) whole there =
     (elim (is_part place c) as (λ b. is_part place c ≡ b → (b || list_any (is_part place) chunks) ≡ true
     → option_map_or (λ (x : Chunk). x.bytes) (if b then Some c else find (is_part place) chunks) [] ≡ chunk_of session place.0 place.1 size) [
       | true ↦ λ is all.
-          let file : c.file ≡ place.0 = same_number c.file place.0 (both_true (c.file == place.0) (c.offset == place.1) is).0 in
-          let offset : c.offset ≡ place.1 = same_number c.offset place.1 (both_true (c.file == place.0) (c.offset == place.1) is).1 in
+          let file : c.file ≡ place.0 = same_number c.file place.0 (and_parts (c.file == place.0) (c.offset == place.1) is).0 in
+          let offset : c.offset ≡ place.1 = same_number c.offset place.1 (and_parts (c.file == place.0) (c.offset == place.1) is).1 in
           whole.0 ∙ (ap (λ (n : ℕ). chunk_of session n c.offset size) file ∙ ap (λ (n : ℕ). chunk_of session place.0 n size) offset)
       | false ↦ λ isnt rest. part_there session size place chunks whole.1 rest
     ]) refl there
@@ -257,7 +249,7 @@ none_asked (a ∷ asks) is = cc
 
 pub whole_fetch : (sessions : List Session) (size next : ℕ) (f : Fetch) → 1 ≤ size → (ok : FetchOk sessions size next f) → is_complete size f ≡ true → IsWholeFetch ok.session size f
 whole_fetch sessions size next f some ok complete =
-    let both : (is_empty f.asks ≡ true) × ((f.asked == length (places_of size f.sizes)) ≡ true) = both_true (is_empty f.asks) (f.asked == length (places_of size f.sizes)) complete in
+    let both : (is_empty f.asks ≡ true) × ((f.asked == length (places_of size f.sizes)) ≡ true) = and_parts (is_empty f.asks) (f.asked == length (places_of size f.sizes)) complete in
     let none : f.asks ≡ [] = none_asked f.asks both.0 in
     let every : take f.asked (places_of size f.sizes) ≡ places_of size f.sizes
     = ap (λ (n : ℕ). take n (places_of size f.sizes)) (same_number f.asked (length (places_of size f.sizes)) both.1) ∙ take-length (places_of size f.sizes) in

@@ -23,14 +23,16 @@ use Rattle.ccr_law_base.proofs.Cases.{on_if, on_guards}
 use Rattle.ccr_law_core.proofs.Replicas.{number_itself, least_known-replaced, least_known-changed}
 use Rattle.ccr_law_core.proofs.Changes.{some-of}
 use Rattle.ccr_law_core.proofs.Sets.{count-marked}
-use Rattle.ccr_law_core.proofs.Rows.{not_false, inside}
-use Rattle.ccr_law_stores.proofs.Counting.{All-in, in-find, found_at}
+use Rattle.ccr_law_core.proofs.Rows.{inside}
+use Rattle.ccr_law_stores.proofs.Counting.{in-find, found_at}
 use Rattle.ccr_law_stores.proofs.Keeping.{store-flushes}
 use Rattle.ccr_law_stores.proofs.Merging.{copy-merges}
 use Rattle.ccr_law_followers.specs.TrueCopies.{ReplicaOk, CopiesOk, CopiesOf}
 use Rattle.ccr_law_followers.proofs.One.{copy-knows, copy-takes}
 use Rattle.ccr_law_followers.proofs.Several.{Found, found_in, recounted, one_given, one_kept, left, newcomer, added, promoted, promoted-rises, changed_inside}
 use Rattle.ccr_law_followers.proofs.After.{OkOf, OkAfter, RowOk, settled}
+use Rattle.std.proofs.lemmas.Bool.{not-false}
+use Rattle.ccr_law_base.proofs.Lists.{All-in}
 
 -- ---- replications
 
@@ -104,7 +106,7 @@ replicate_ok line f past s copy seq None is ok = settled line f past _ _ s (with
 replicate_ok line f past s copy seq (Some r) is ok =
     on_guards (λ (o : Outcome Copies). RowOk line f past (events.Replicate (sides.Follower f) copy seq) s (within (with_copies s) o)) s.copies _ _
     (λ why. settled line f past (events.Replicate (sides.Follower f) copy seq) (replies.Refused why) s (with_copies s s.copies) past.given past.written refl refl refl (omega arith) ok)
-    (λ tests. taken (not_false (has s.copies.primary.seen seq) tests.1.0))
+    (λ tests. taken (not-false (has s.copies.primary.seen seq) tests.1.0))
   where
     never : has s.copies.primary.seen seq ≡ true → has s.copies.primary.seen seq ≡ is_some (past.given s.copies.primary.number seq)
         → is_some (past.given s.copies.primary.number seq) ≡ false → ⊥

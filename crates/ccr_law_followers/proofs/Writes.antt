@@ -2,7 +2,7 @@
 use Rattle.std.specs.List.{AllByRecursion, list_all}
 use Rattle.std.specs.Prelude.{filter}
 use Rattle.std.specs.Option.{option_map, option_map_or}
-use Rattle.std.proofs.Common.{◌≡◌, ℕ, ◌&&◌, Bool, true, false, not, if◌then◌else◌, Option, Some, None, List, [], ◌∷◌, ◌++◌, refl, sym, ◌∙◌, ap, subst, arith}
+use Rattle.std.proofs.Common.{◌≡◌, ℕ, Bool, true, false, not, if◌then◌else◌, Option, Some, None, List, [], ◌∷◌, ◌++◌, refl, sym, ◌∙◌, ap, subst, arith}
 use Rattle.std.proofs.lemmas.List.Concat.{flat_map-cons}
 use Rattle.ccr_op.specs.Operation.{Operation}
 use Rattle.ccr_tracker.specs.Numbers.{has}
@@ -23,11 +23,11 @@ use Rattle.ccr_model.specs.Invariants.{HasProcessed}
 use Rattle.ccr_law_base.proofs.Cases.{on_if, on_guards}
 use Rattle.ccr_law_base.proofs.Lists.{All-weaker, All-both, All-push, All-map_back, All-append_front, All-append_back, All-find, some_equal}
 use Rattle.ccr_law_core.proofs.Replicas.{number_itself}
-use Rattle.ccr_law_core.proofs.Rows.{not_false}
 use Rattle.ccr_law_followers.specs.TrueCopies.{CopyOk, ReplicaOk, CopiesOf, HasCommittedBatches}
 use Rattle.ccr_law_followers.proofs.One.{taking_all, taking_all-global}
 use Rattle.ccr_law_followers.proofs.Several.{recounted, applies}
 use Rattle.ccr_law_followers.proofs.After.{OkOf, RowOk, settled}
+use Rattle.std.proofs.lemmas.Bool.{and_parts, not-false}
 
 -- ---- writes that were sent
 
@@ -82,7 +82,7 @@ apply_ok line f past s epoch number batch found is committed ok =
     by_write : (o : Option Sent) → sent_write s.work number ≡ o → is_other batch o ≡ false
         → RowOk line f past (events.Apply f epoch number batch) s (record { reply = replies.Applied (new_in s.copies.primary.seen batch); next = with_copies s (applied batch s.copies); sent = [] })
     by_write None at other = cc
-    by_write (Some w) at other = taken w at (same_operations-equal w.write.batch batch (not_false (same_operations w.write.batch batch) other))
+    by_write (Some w) at other = taken w at (same_operations-equal w.write.batch batch (not-false (same_operations w.write.batch batch) other))
 
 -- ---- ended writes
 
@@ -120,13 +120,9 @@ copies-written line given restored written w s all ok = record {
       all = All-push (HasProcessed c) written w is.all done;
     }
 
-pub both_true : (a b : Bool) → (a && b) ≡ true → (a ≡ true) × (b ≡ true)
-both_true true b is = (refl, is)
-both_true false b is = cc
-
 pub All-list_all : {X : Type 0} (test : X → Bool) (xs : List X) → list_all test xs ≡ true → AllByRecursion (λ (x : X). test x ≡ true) xs
 All-list_all test [] is = tt
-All-list_all test (x ∷ xs) is = let both : (test x ≡ true) × (list_all test xs ≡ true) = both_true (test x) (list_all test xs) is in (both.0, All-list_all test xs both.1)
+All-list_all test (x ∷ xs) is = let both : (test x ≡ true) × (list_all test xs ≡ true) = and_parts (test x) (list_all test xs) is in (both.0, All-list_all test xs both.1)
 
 -- where no copy lacks one of the operations, each has all
 pub none_lacks : (batch : List Operation) (copies : List Copy) → least_number (filter (λ (c : Copy). not (has_all batch c)) copies) ≡ None
@@ -135,7 +131,7 @@ none_lacks batch [] none = tt
 none_lacks batch (c ∷ copies) none =
     on_if (λ (cs : List Copy). least_number cs ≡ None → AllByRecursion (λ (x : Copy). has_all batch x ≡ true) (c ∷ copies)) (not (has_all batch c))
     (c ∷ filter (λ (x : Copy). not (has_all batch x)) copies) (filter (λ (x : Copy). not (has_all batch x)) copies)
-    (λ lacking some. cc) (λ has rest. (not_false (has_all batch c) has, none_lacks batch copies rest)) none
+    (λ lacking some. cc) (λ has rest. (not-false (has_all batch c) has, none_lacks batch copies rest)) none
 
 pub written_ok : (line : Line) (f : ℕ) (past : FollowerPast) (s : Follower) (number : ℕ) (found : Option Sent) → sent_write s.work number ≡ found → OkOf line past s
     → RowOk line f past (events.Written f number) s (written_row s number found)

@@ -8,15 +8,12 @@ use Rattle.ccr_model.specs.Restores.{ChunkAsked, changed_ask, without_ask}
 use Rattle.ccr_law_frames.specs.Asking.{IsNoMore, AsksApart}
 use Rattle.ccr_law_frames.specs.Saying.{Setting, IsPlaceOf, AreGoodAsks}
 use Rattle.ccr_law_frames.proofs.Finds.{find-takes, find-none, find-back, find-push-other, no_more-cons, no_more-leaves, no_more-changes}
-use Rattle.ccr_law_base.proofs.Lists.{All-weaker, All-push}
+use Rattle.ccr_law_base.proofs.Lists.{All-weaker, All-push, All-without_ask}
 use Rattle.ccr_law_base.proofs.Cases.{on_if}
+use Rattle.ccr_law_base.proofs.Tests.{and_first}
 
 abbrev pub asks_under : ℕ → ChunkAsked → Bool
 asks_under n a = (a.request == n) && is_sent a.progress
-
-first-of : (a b : Bool) → (a && b) ≡ true → a ≡ true
-first-of true b is = refl
-first-of false b is = absurd cc
 
 none-under : (n : ℕ) (a : ChunkAsked) → (a.request == n) ≡ false → asks_under n a ≡ false
 none-under n a other = ap (λ (b : Bool). b && is_sent a.progress) other
@@ -24,7 +21,7 @@ none-under n a other = ap (λ (b : Bool). b && is_sent a.progress) other
 alone : (n : ℕ) (a : ChunkAsked) (asks : List ChunkAsked) → AllByRecursion (λ (x : ChunkAsked). (x.request == a.request) ≡ false) asks → asks_under n a ≡ true
     → find (asks_under n) asks ≡ None
 alone n a asks apart is =
-    let same : (a.request == n) ≡ true = first-of (a.request == n) (is_sent a.progress) is in
+    let same : (a.request == n) ≡ true = and_first (a.request == n) (is_sent a.progress) is in
     find-none (asks_under n) asks (All-weaker (λ (x : ChunkAsked). (x.request == a.request) ≡ false) (λ (x : ChunkAsked). asks_under n x ≡ false)
     (λ x other. none-under n x (grind (arith, nat_tests))) asks apart)
 
@@ -60,11 +57,6 @@ All-changed P q f keeps [] all = tt
 All-changed P q f keeps (a ∷ asks) all =
     on_if (AllByRecursion P) (a.request == q) (f a ∷ asks) (a ∷ changed_ask q f asks) (λ is. (keeps a all.0, all.1)) (λ isnt. (all.0, All-changed P q f keeps asks all.1))
 
-pub All-without : (P : ChunkAsked → Type 0) (q : ℕ) (asks : List ChunkAsked) → AllByRecursion P asks → AllByRecursion P (without_ask q asks)
-All-without P q [] all = tt
-All-without P q (a ∷ asks) all =
-    on_if (AllByRecursion P) (a.request == q) asks (a ∷ without_ask q asks) (λ is. all.1) (λ isnt. (all.0, All-without P q asks all.1))
-
 abbrev pub put_off : Progress → ChunkAsked → ChunkAsked
 put_off later a = record a { progress = later }
 
@@ -78,7 +70,7 @@ without-apart : (q : ℕ) (asks : List ChunkAsked) → AsksApart asks → AsksAp
 without-apart q [] apart = tt
 without-apart q (a ∷ asks) apart =
     on_if AsksApart (a.request == q) asks (a ∷ without_ask q asks) (λ is. apart.1)
-    (λ isnt. (All-without (λ (x : ChunkAsked). (x.request == a.request) ≡ false) q asks apart.0, without-apart q asks apart.1))
+    (λ isnt. (All-without_ask (λ (x : ChunkAsked). (x.request == a.request) ≡ false) q asks apart.0, without-apart q asks apart.1))
 
 push-apart : (a : ChunkAsked) (asks : List ChunkAsked) → AllByRecursion (λ (x : ChunkAsked). (a.request == x.request) ≡ false) asks → AsksApart asks → AsksApart (asks ++ a ∷ [])
 push-apart a [] other apart = (tt, tt)
@@ -93,8 +85,8 @@ good-later e session next q later asks good = record {
 
 pub good-without : (e : Setting) (session next q : ℕ) (asks : List ChunkAsked) → AreGoodAsks e session next asks → AreGoodAsks e session next (without_ask q asks)
 good-without e session next q asks good = record {
-  drawn = All-without (λ (a : ChunkAsked). a.request < next) q asks good.drawn;
-  places = All-without (λ (a : ChunkAsked). IsPlaceOf e session a.file a.offset) q asks good.places;
+  drawn = All-without_ask (λ (a : ChunkAsked). a.request < next) q asks good.drawn;
+  places = All-without_ask (λ (a : ChunkAsked). IsPlaceOf e session a.file a.offset) q asks good.places;
   apart = without-apart q asks good.apart;
 }
 

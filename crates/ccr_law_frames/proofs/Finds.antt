@@ -1,7 +1,7 @@
 -- What a test finds in a list where one more element stands in it, one leaves it, or one is changed.
 use Rattle.std.specs.Prelude.{find, slice_get, slice_set, ◌⊎◌, IfSome}
 use Rattle.std.specs.List.{AllByRecursion}
-use Rattle.std.proofs.Common.{◌≡◌, ℕ, zero, suc, ◌+◌, ◌<◌, Bool, true, false, cond, Option, Some, None, List, [], ◌∷◌, ◌++◌, length, refl, sym, ◌∙◌, ap, subst, arith, inl, inr}
+use Rattle.std.proofs.Common.{◌≡◌, ℕ, zero, suc, ◌+◌, Bool, true, false, cond, Option, Some, None, List, [], ◌∷◌, ◌++◌, length, refl, sym, ◌∙◌, ap, subst, arith, inl, inr}
 use Rattle.ccr_law_frames.specs.Asking.{IsNoMore}
 use Rattle.ccr_law_base.proofs.Cases.{on_if}
 
@@ -14,13 +14,6 @@ find-takes test x xs passes = ap (λ (b : Bool). cond b (Some x) (find test xs))
 pub find-none : {X : Type 0} (test : X → Bool) (xs : List X) → AllByRecursion (λ x. test x ≡ false) xs → find test xs ≡ None
 find-none test [] all = refl
 find-none test (x ∷ xs) all = find-skips test x xs all.0 ∙ find-none test xs all.1
-
--- what is found is found in a longer list
-pub find-front : {X : Type 0} (test : X → Bool) (xs ys : List X) (x : X) → find test xs ≡ Some x → find test (xs ++ ys) ≡ Some x
-find-front test [] ys x found = absurd cc
-find-front test (z ∷ xs) ys x found =
-    on_if (λ (o : Option _). o ≡ Some x → find test (z ∷ xs ++ ys) ≡ Some x) (test z) (Some z) (find test xs)
-    (λ is at. find-takes test z (xs ++ ys) is ∙ at) (λ isnt at. find-skips test z (xs ++ ys) isnt ∙ find-front test xs ys x at) found
 
 pub find-back : {X : Type 0} (test : X → Bool) (xs ys : List X) → AllByRecursion (λ x. test x ≡ false) xs → find test (xs ++ ys) ≡ find test ys
 find-back test [] ys all = refl
@@ -85,11 +78,6 @@ push-at (z ∷ xs) (suc i) x y at = (elim (push-at xs i x y at) as (λ _. (slice
   | inl old ↦ inl old
   | inr new ↦ inr (new.0, ap suc new.1)
 ])
-
-pub at-below : {X : Type 0} (xs : List X) (i : ℕ) (x : X) → slice_get xs i ≡ Some x → i < length xs
-at-below [] i x at = absurd cc
-at-below (z ∷ xs) zero x at = omega arith
-at-below (z ∷ xs) (suc i) x at = let rest : i < length xs = at-below xs i x at in omega arith
 
 pub push-new : {X : Type 0} (xs : List X) (y : X) → slice_get (xs ++ y ∷ []) (length xs) ≡ Some y
 push-new [] y = refl

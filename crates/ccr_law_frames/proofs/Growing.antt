@@ -9,9 +9,8 @@ use Rattle.ccr_model.specs.Past.{Line, line_after}
 use Rattle.ccr_model.specs.FrameFacts.{IsCommitted}
 use Rattle.ccr_law_stores.specs.TrueStores.{IsTrueSession}
 use Rattle.ccr_law_stores.proofs.Sessions.{front-same, session-stays}
-use Rattle.ccr_law_frames.proofs.Finds.{find-front}
 use Rattle.ccr_law_frames.proofs.Moving.{GrowsTo}
-use Rattle.ccr_law_base.proofs.Lists.{slice_get-take}
+use Rattle.ccr_law_base.proofs.Lists.{slice_get-take, find-front}
 use Rattle.ccr_law_core.proofs.Events.{line_stays}
 
 -- the line, whose operations are told by their numbers, keeps what was committed

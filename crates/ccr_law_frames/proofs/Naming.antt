@@ -5,7 +5,7 @@ use Rattle.std.proofs.Common.{◌≡◌, ℕ, zero, suc, ◌+◌, ◌<◌, ◌�
 use Rattle.std.proofs.lemmas.Slice.Eq.{bytes_eq-Decides}
 use Rattle.ccr_model.specs.Followers.{Follower, uuid_of}
 use Rattle.ccr_model.specs.World.{follower_from, follower_of, most_followers}
-use Rattle.ccr_law_frames.proofs.Finds.{at-below}
+use Rattle.ccr_law_base.proofs.Lists.{get_within}
 
 after-0 : (f : ℕ) → 0 < f → f < 9 → bytes_eq (uuid_of 0) (uuid_of f) ≡ false
 after-0 zero less few = absurd (omega arith)
@@ -130,5 +130,5 @@ named-from (x ∷ followers) k (suc j) f s is few at =
 -- the follower at a place is the one that its UUID names
 pub named-at : (followers : List Follower) (f : ℕ) (s : Follower) → length followers ≤ most_followers → slice_get followers f ≡ Some s → follower_of followers (uuid_of f) ≡ Some f
 named-at followers f s few at =
-    let below : f < length followers = at-below followers f s at in
+    let below : f < length followers = get_within followers f s at in
     named-from followers 0 f f s (omega arith) (omega arith) at

@@ -8,9 +8,10 @@ use Rattle.ccr_model.specs.LeaderFrames.{new_session}
 use Rattle.ccr_model.specs.Past.{Line, opened_after}
 use Rattle.ccr_law_stores.specs.TrueStores.{IsTrueSession}
 use Rattle.ccr_law_frames.specs.TrueFrames.{IsOpen, AreSessions}
-use Rattle.ccr_law_frames.proofs.Finds.{find-front, find-back, find-takes}
+use Rattle.ccr_law_frames.proofs.Finds.{find-back, find-takes}
 use Rattle.ccr_law_frames.proofs.Growing.{KeepsFront, front-holds}
-use Rattle.ccr_law_base.proofs.Lists.{All-weaker, All-append, All-push}
+use Rattle.ccr_law_base.proofs.Lists.{All-weaker, All-append, All-push, find-front}
+use Rattle.ccr_law_base.proofs.Tests.{itself}
 
 -- those that are open were open before
 pub record StaysOpen (l : Leader) (next : ℕ) (sessions : List Session) : Type 0 where
@@ -55,14 +56,11 @@ one-opened : (opened : List Session) (l : Leader) → AllByRecursion (IsOpen ope
 one-opened opened l all =
     ap (λ (more : List Session). opened ++ more) (filter-last (λ (s : Session). nat_le l.next_session s.number) l.sessions (new_session l) (open-old opened l.next_session l.sessions all) (grind (arith, nat_tests)))
 
-same-number : (n : ℕ) → (n == n) ≡ true
-same-number n = grind (arith, nat_tests)
-
 new-found : (opened : List Session) (l : Leader) → AllByRecursion (λ (s : Session). s.number < l.next_session) opened → session_of (opened ++ new_session l ∷ []) l.next_session ≡ Some (new_session l)
 new-found opened l old =
     find-back (λ (s : Session). s.number == l.next_session) opened (new_session l ∷ [])
     (All-weaker (λ (s : Session). s.number < l.next_session) (λ (s : Session). (s.number == l.next_session) ≡ false) (λ s low. grind (arith, nat_tests)) opened old)
-    ∙ find-takes (λ (s : Session). s.number == l.next_session) (new_session l) [] (same-number l.next_session)
+    ∙ find-takes (λ (s : Session). s.number == l.next_session) (new_session l) [] (itself l.next_session)
 
 -- where a session is opened it is found under its number
 pub opening-found : (line : Line) (opened : List Session) (l : Leader) (next : ℕ) (sessions : List Session) → AreSessions line opened l.next_session l.sessions → OpensOne l next sessions

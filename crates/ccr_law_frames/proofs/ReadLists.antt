@@ -8,8 +8,9 @@ use Rattle.ccr_model.specs.Tasks.{Read, changed_read, without_read, by_request, 
 use Rattle.ccr_law_frames.specs.Asking.{IsNoMore, ReadsApart}
 use Rattle.ccr_law_frames.specs.Saying.{AreGoodReads}
 use Rattle.ccr_law_frames.proofs.Finds.{find-skips, find-takes, find-none, find-back, find-push-other, no_more-cons, no_more-leaves, no_more-changes}
-use Rattle.ccr_law_base.proofs.Lists.{All-weaker, All-every, All-push, All-both, All-filter, All-changed_read, All-without_read}
+use Rattle.ccr_law_base.proofs.Lists.{All-weaker, All-every, All-push, All-both, All-filter, All-changed_read, All-without_read, All-by_request}
 use Rattle.ccr_law_base.proofs.Cases.{on_if}
+use Rattle.ccr_law_base.proofs.Tests.{and_first, itself}
 
 -- the read was sent under this number
 abbrev pub answers_to : ℕ → Read → Bool
@@ -18,17 +19,13 @@ answers_to n r = (r.request == n) && is_sent r.progress
 abbrev pub has_request : ℕ → Read → Bool
 has_request n r = r.request == n
 
-pub both-first : (a b : Bool) → (a && b) ≡ true → a ≡ true
-both-first true b is = refl
-both-first false b is = absurd cc
-
 pub none-answers : (n : ℕ) (r : Read) → (r.request == n) ≡ false → answers_to n r ≡ false
 none-answers n r other = ap (λ (b : Bool). b && is_sent r.progress) other
 
 -- what stands beside a read that answers to a number doesn't answer to it
 alone : (n : ℕ) (r : Read) (reads : List Read) → AllByRecursion (λ (x : Read). (x.request == r.request) ≡ false) reads → answers_to n r ≡ true → find (answers_to n) reads ≡ None
 alone n r reads apart is =
-    let same : (r.request == n) ≡ true = both-first (r.request == n) (is_sent r.progress) is in
+    let same : (r.request == n) ≡ true = and_first (r.request == n) (is_sent r.progress) is in
     find-none (answers_to n) reads (All-weaker (λ (x : Read). (x.request == r.request) ≡ false) (λ (x : Read). answers_to n x ≡ false)
     (λ x other. none-answers n x (grind (arith, nat_tests))) reads apart)
 
@@ -141,9 +138,6 @@ good-again next q reads good = record {
 
 -- ---- sent again
 
-pub same-number : (n : ℕ) → (n == n) ≡ true
-same-number n = grind (arith, nat_tests)
-
 pub again-found : (next : ℕ) (r : Read) (reads : List Read) → AllByRecursion (λ (x : Read). x.request < next) reads → find (has_request r.request) reads ≡ Some r
     → find (answers_to next) (changed_read r.request (again next) reads) ≡ Some (again next r)
 again-found next r [] low found = absurd cc
@@ -152,7 +146,7 @@ again-found next r (x ∷ reads) low found =
     (λ is at.
     let same : x ≡ r = cc in
     on_if (λ (ys : List Read). find (answers_to next) ys ≡ Some (again next r)) (x.request == r.request) (again next x ∷ reads) (x ∷ changed_read r.request (again next) reads)
-    (λ here. find-takes (answers_to next) (again next x) reads (ap (λ (b : Bool). b && true) (same-number next)) ∙ ap (λ (y : Read). Some (again next y)) same)
+    (λ here. find-takes (answers_to next) (again next x) reads (ap (λ (b : Bool). b && true) (itself next)) ∙ ap (λ (y : Read). Some (again next y)) same)
     (λ there. absurd cc))
     (λ isnt at.
     on_if (λ (ys : List Read). find (answers_to next) ys ≡ Some (again next r)) (x.request == r.request) (again next x ∷ reads) (x ∷ changed_read r.request (again next) reads)
@@ -182,7 +176,7 @@ pub record AreListed (next : ℕ) (reads rs : List Read) : Type 0 where
 all-there : (reads : List Read) → ReadsApart reads → AllByRecursion (λ (r : Read). find (has_request r.request) reads ≡ Some r) reads
 all-there [] apart = tt
 all-there (r ∷ reads) apart = (
-  find-takes (has_request r.request) r reads (same-number r.request),
+  find-takes (has_request r.request) r reads (itself r.request),
   All-weaker (λ (x : Read). ((x.request == r.request) ≡ false) × (find (has_request x.request) reads ≡ Some x)) (λ (x : Read). find (has_request x.request) (r ∷ reads) ≡ Some x)
       (λ x both. let other : (x.request == r.request) ≡ false = both.0 in find-skips (has_request x.request) r reads (grind (arith, nat_tests)) ∙ both.1) reads
       (All-both (λ (x : Read). (x.request == r.request) ≡ false) (λ (x : Read). find (has_request x.request) reads ≡ Some x) reads apart.0 (all-there reads apart.1)),
@@ -206,11 +200,6 @@ filter-listed next test reads rs l = record {
 }
 
 -- ---- in order of their numbers
-
-All-by_request : (P : Read → Type 0) (r : Read) (rs : List Read) → P r → AllByRecursion P rs → AllByRecursion P (by_request r rs)
-All-by_request P r [] it all = (it, tt)
-All-by_request P r (x ∷ rs) it all =
-    on_if (AllByRecursion P) (nat_lt r.request x.request) (r ∷ x ∷ rs) (x ∷ by_request r rs) (λ is. (it, all)) (λ isnt. (all.0, All-by_request P r rs it all.1))
 
 apart-by_request : (r : Read) (rs : List Read) → AllByRecursion (λ (x : Read). (x.request == r.request) ≡ false) rs → ReadsApart rs → ReadsApart (by_request r rs)
 apart-by_request r [] other apart = (tt, tt)

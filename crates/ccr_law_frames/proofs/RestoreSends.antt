@@ -2,8 +2,7 @@
 use Rattle.std.specs.Prelude.{find, filter, ◌==◌, ◌&&◌, IfSome}
 use Rattle.std.specs.Option.{option_map}
 use Rattle.std.specs.List.{AllByRecursion}
-use Rattle.std.proofs.Common.{◌≡◌, ℕ, ◌+◌, ◌-◌, ◌<◌, ◌≤◌, Bool, true, false, Option, Some, None, List, [], ◌∷◌, ◌++◌, length, take, drop, refl, sym, ◌∙◌, ap, subst, arith, inl, inr}
-use Rattle.std.proofs.lemmas.Bool.Decides.{nat_tests}
+use Rattle.std.proofs.Common.{◌≡◌, ℕ, ◌+◌, ◌-◌, ◌<◌, ◌≤◌, Bool, true, Option, Some, None, List, [], ◌∷◌, ◌++◌, length, take, drop, refl, sym, ◌∙◌, ap, subst, arith, inl, inr}
 use Rattle.ccr_wire.specs.Message.{Frame}
 use Rattle.ccr_wire.specs.declared.kind.LeaseResult.TheVariants as results
 use Rattle.ccr_wire.specs.declared.content.Content.{Content}
@@ -19,6 +18,7 @@ use Rattle.ccr_law_frames.proofs.Places.{all-places}
 use Rattle.ccr_law_frames.proofs.Moving.{Goes, goes-then, goes-still}
 use Rattle.ccr_law_base.proofs.Lists.{All-filter, All-take, All-drop, All-push}
 use Rattle.ccr_law_base.proofs.Cases.{on_if}
+use Rattle.ccr_law_base.proofs.Tests.{and_false, itself}
 
 -- the part that is asked for by the request that is found
 abbrev part_asked : ℕ → ℕ → Option ChunkAsked → Option Part
@@ -88,9 +88,6 @@ session-goes e r retry good =
 abbrev at_fetch : Restore → Fetch → Restore
 at_fetch r f = record r { stage = fetching f }
 
-same-number : (n : ℕ) → (n == n) ≡ true
-same-number n = grind (arith, nat_tests)
-
 chunk-goes : (e : Setting) (r : Restore) (f : Fetch) (place : ℕ × ℕ) → IsPlaceOf e f.session place.0 place.1 → IsGoodRestore e (at_fetch r f) → GoesRestore e (at_fetch r f) (asks_chunk (at_fetch r f) f place)
 chunk-goes e r f place within good =
     let a : ChunkAsked = record { request = r.next_request; file = place.0; offset = place.1; progress = on_its_way } in
@@ -109,7 +106,7 @@ chunk-goes e r f place within good =
           said = (
             within,
             if-part (λ (p : Part). p ≡ record { session = f.session; file = place.0; offset = place.1; size = r.chunk_size }) (record r { next_request = r.next_request + 1 }) next r.next_request a
-                (push-found r.next_request a f.asks good.stage.asks.drawn (ap (λ (b : Bool). b && true) (same-number r.next_request))) refl,
+                (push-found r.next_request a f.asks good.stage.asks.drawn (ap (λ (b : Bool). b && true) (itself r.next_request))) refl,
           );
         },
         tt,
@@ -137,10 +134,6 @@ more-go e r f good =
 
 -- ---- losses and retries
 
-never : (b : Bool) → (b && false) ≡ false
-never true = refl
-never false = refl
-
 -- a bootstrap by its stage
 lost-at : (e : Setting) (r : Restore) (now request : ℕ) (stage : Stage) → r.follower ≡ e.uuid → r.lease ≡ e.lease → IsGoodStage e r.next_request stage
     → Goes e (restoring (record r { stage = stage })) (restoring (restore_lost (record r { stage = stage }) now request)) []
@@ -153,7 +146,7 @@ lost-at e r now request (fetching f) named lease staged =
     let next : Fetch = record f { asks = changed_ask request (put_off later) f.asks } in
     record {
       follows = fetch-follows r f next r.next_request (r.retry + 1) refl (omega arith)
-          (λ n low. later-less n request (put_off later) (λ x is. never (x.request == n)) f.asks staged.asks.apart);
+          (λ n low. later-less n request (put_off later) (λ x is. and_false (x.request == n)) f.asks staged.asks.apart);
       good = record {
         named = named;
         same_lease = lease;
@@ -188,7 +181,7 @@ again-goes e r f a within good =
           said = (
             within,
             if-part (λ (p : Part). p ≡ record { session = f.session; file = a.file; offset = a.offset; size = r.chunk_size }) (record r { next_request = r.next_request + 1 }) next r.next_request new
-                (push-found r.next_request new rest less.drawn (ap (λ (b : Bool). b && true) (same-number r.next_request))) refl,
+                (push-found r.next_request new rest less.drawn (ap (λ (b : Bool). b && true) (itself r.next_request))) refl,
           );
         },
         tt,

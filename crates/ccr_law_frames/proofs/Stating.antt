@@ -22,9 +22,9 @@ use Rattle.ccr_law_frames.specs.Asking.{Ask, ask_of, ask_in, Part, part_of, part
 use Rattle.ccr_law_frames.specs.Saying.{Setting, IsAsItOpened, IsPlaceOf, HasBytes, IsWhole, Brings, IsTrueSaid, IsGoodStage, IsGoodWork}
 use Rattle.ccr_law_frames.specs.TrueFrames.{setting, IsOfFollower, frame_of_poll, frame_of_kept, scene_of, HasTrueFrames}
 use Rattle.ccr_law_frames.specs.FrameLaws.{NamesFollower, IsAboutLease, IsOwn, IsOwnKept, IsRunOf, AreOwn, IsMessageOf, AreTheirs, FramesSay}
-use Rattle.ccr_law_frames.proofs.Finds.{if-weaker, at-below}
+use Rattle.ccr_law_frames.proofs.Finds.{if-weaker}
 use Rattle.ccr_law_frames.proofs.Naming.{differs, named-at}
-use Rattle.ccr_law_base.proofs.Lists.{All-weaker, All-find, some_equal, All-places}
+use Rattle.ccr_law_base.proofs.Lists.{All-weaker, All-find, some_equal, All-places, get_within}
 
 -- ---- whose a message is
 
@@ -212,7 +212,7 @@ message-of p m f s few there of own =
 -- a message of a follower that was made is of none that comes later
 unmade-yet : (p : Past) (m : Frame) → length p.state.followers ≤ most_followers → IsOfFollower (scene_of p) p.state.followers m → bytes_eq m.follower (uuid_of (length p.state.followers)) ≡ false
 unmade-yet p m few of =
-    let below : of.number < length p.state.followers = at-below p.state.followers of.number of.follower of.there in
+    let below : of.number < length p.state.followers = get_within p.state.followers of.number of.follower of.there in
     subst (λ (uuid : List ℕ). bytes_eq uuid (uuid_of (length p.state.followers)) ≡ false) (sym of.truth.named) (differs of.number (length p.state.followers) below (omega arith))
 
 frames-theirs : (p : Past) → HasTrueFrames p → AreTheirs p

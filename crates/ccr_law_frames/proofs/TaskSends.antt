@@ -14,9 +14,10 @@ use Rattle.ccr_model.specs.Followers.{Work, replicating}
 use Rattle.ccr_model.specs.FrameFacts.{next_request_of}
 use Rattle.ccr_law_frames.specs.Asking.{Ask, ask_of, ask_in, IsNoMore, Follows}
 use Rattle.ccr_law_frames.specs.Saying.{Setting, AreGoodReads, IsGoodTask}
-use Rattle.ccr_law_frames.proofs.ReadLists.{answers_to, has_request, none-answers, same-number, changed-less, without-less, push-less, push-found, good-changed, good-without, good-push, good-later, again, good-again, again-found, AreListed, all-listed, filter-listed, order-listed, rest-listed}
+use Rattle.ccr_law_frames.proofs.ReadLists.{answers_to, has_request, none-answers, changed-less, without-less, push-less, push-found, good-changed, good-without, good-push, good-later, again, good-again, again-found, AreListed, all-listed, filter-listed, order-listed, rest-listed}
 use Rattle.ccr_law_frames.proofs.Moving.{Goes, goes-then, goes-still}
 use Rattle.ccr_law_base.proofs.Cases.{on_if}
+use Rattle.ccr_law_base.proofs.Tests.{and_second, and_false, itself}
 
 abbrev asked_by : List ℕ → Read → ℕ → Ask
 asked_by history r size = record { history = history; from = r.from; number = r.asked; size = size }
@@ -89,7 +90,7 @@ read-goes e t from to size some good =
             same_history = good.same_history;
             some = some;
             asks = if-asked (λ (a : Ask). a ≡ record { history = t.history; from = from; number = size; size = t.params.max_read_request_size }) (with_read t from to size).next t.next_request r
-                (push-found t.next_request r t.reads good.reads.drawn (ap (λ (b : Bool). b && true) (same-number t.next_request))) refl;
+                (push-found t.next_request r t.reads good.reads.drawn (ap (λ (b : Bool). b && true) (itself t.next_request))) refl;
           };
         },
         tt,
@@ -134,10 +135,6 @@ held-goes e t good =
     (λ may. all-again-goes e (filter is_held t.reads) t (filter-listed t.next_request is_held t.reads t.reads (all-listed t.next_request t.reads good.reads)) good)
     (λ maynt. goes-still e (replicating t) good)
 
-both-last : (a b : Bool) → (a && b) ≡ true → b ≡ true
-both-last true b is = is
-both-last false b is = absurd cc
-
 -- a new read asks for one operation at least
 asks-some : (t : Task) (size : ℕ) → 1 ≤ size → 1 ≤ t.params.max_read_request_operation_count → 1 ≤ asks t size
 asks-some t size some most = on_if (λ (n : ℕ). 1 ≤ n) (is_empty t.reads) t.params.max_read_request_operation_count size (λ none. most) (λ others. some)
@@ -153,7 +150,7 @@ reads-goes e zero t good = goes-still e (replicating t) good
 reads-goes e (suc n) t good =
     on_if (GoesTask e t) (has_budget t && nat_lt t.next t.known) (followed_by (next_read t) (with_reads n)) (quiet t)
     (λ is.
-    let more : nat_lt t.next t.known ≡ true = both-last (has_budget t) (nat_lt t.next t.known) is in
+    let more : nat_lt t.next t.known ≡ true = and_second (has_budget t) (nat_lt t.next t.known) is in
     let one : GoesTask e t (next_read t) = next-goes e t (grind (arith, nat_tests)) good in
     goes-then e (replicating t) (replicating (next_read t).next) (replicating (with_reads n (next_read t).next).next) (next_read t).sent (with_reads n (next_read t).next).sent
     one (reads-goes e n (next_read t).next one.good))
@@ -215,16 +212,12 @@ stopped-goes e phase t good = record {
 
 -- ---- replies, losses and retries
 
-never : (b : Bool) → (b && false) ≡ false
-never true = refl
-never false = refl
-
 -- a read is changed, but not its number, and is not in the sent state then
 changed-goes : (e : Setting) (t : Task) (q : ℕ) (f : Read → Read) → ((r : Read) → (f r).request ≡ r.request) → ((r : Read) → is_sent (f r).progress ≡ false) → ((r : Read) → 1 ≤ r.asked → 1 ≤ (f r).asked)
     → IsGoodTask e t → Goes e (replicating t) (replicating (record t { reads = changed_read q f t.reads })) []
 changed-goes e t q f same held some good = record {
   follows = reads-follow t (record t { reads = changed_read q f t.reads }) refl refl (omega arith)
-      (λ n low. changed-less n q f (λ x is. ap (λ (b : Bool). ((f x).request == n) && b) (held x) ∙ never ((f x).request == n)) t.reads good.reads.apart);
+      (λ n low. changed-less n q f (λ x is. ap (λ (b : Bool). ((f x).request == n) && b) (held x) ∙ and_false ((f x).request == n)) t.reads good.reads.apart);
   good = record { named = good.named; same_history = good.same_history; some = good.some; reads = good-changed t.next_request q f same some t.reads good.reads };
   messages = tt;
 }

@@ -1,8 +1,7 @@
 -- Each event keeps what holds of the messages, the polls, the kept requests and the works.
 use Rattle.std.specs.Prelude.{slice_get, remove, nat_le, not}
 use Rattle.std.specs.List.{AllByRecursion}
-use Rattle.std.proofs.Common.{◌≡◌, ℕ, ◌<◌, ◌≤◌, Bool, false, Option, Some, None, List, [], ◌∷◌, length, refl, sym, ◌∙◌, ap, subst, arith}
-use Rattle.std.proofs.lemmas.Bool.Decides.{nat_tests}
+use Rattle.std.proofs.Common.{◌≡◌, ℕ, ◌≤◌, Bool, Option, Some, None, List, [], ◌∷◌, length, refl, sym, ◌∙◌, ap, subst}
 use Rattle.ccr_wire.specs.Message.{Frame, kind_of_content}
 use Rattle.ccr_query.specs.Queries.{Tree}
 use Rattle.ccr_query.specs.declared.sorting.SortKey.{SortKey}
@@ -35,6 +34,7 @@ use Rattle.ccr_law_frames.proofs.FollowerGoes.{RowGoes, copies-go, receive-goes,
 use Rattle.ccr_law_frames.proofs.Updating.{true-there, tells-updated, tells-longer}
 use Rattle.ccr_law_base.proofs.Lists.{All-append, All-at, All-remove}
 use Rattle.ccr_law_base.proofs.Cases.{on_if, on_guards}
+use Rattle.std.proofs.lemmas.Bool.{leb-false}
 
 abbrev pub TellsIn : Scene → State → Type 0
 TellsIn scene s = Tells scene s.followers s.flight s.leader.polls s.leader.kept
@@ -131,9 +131,6 @@ by-wake scene s f at (Some follower) serves now =
 
 -- ---- new followers, searches
 
-not-above : (a b : ℕ) → nat_le a b ≡ false → b < a
-not-above a b isnt = grind (arith, nat_tests)
-
 by-follow : (scene : Scene) (s : State) (params : ParamValues) (copies : ℕ) (name : List ℕ) (same : Option ℕ) → 1 ≤ params.max_read_request_operation_count → TellsIn scene s
     → TellsAfter scene (follow_row s params copies name same)
 unfolding follow_row
@@ -141,7 +138,7 @@ by-follow scene s params copies name (Some f) some now = now
 by-follow scene s params copies name None some now =
     on_guards (TellsAfter scene) s ((nat_le most_followers (length s.followers), TooMany) ∷ []) (with_new_follower s params copies name) (λ why. now)
     (λ few. tells-longer scene s.followers s.flight s.leader.polls s.leader.kept (new_follower (length s.followers) params copies name s.leader.start.retention)
-    (not-above most_followers (length s.followers) few.0) (new-goes scene (length s.followers) params copies name s.leader.start.retention some) now)
+    (leb-false most_followers (length s.followers) few.0) (new-goes scene (length s.followers) params copies name s.leader.start.retention some) now)
 
 by-search : (scene : Scene) (s : State) (copy : ℕ) (query : Tree) (sort : List SortKey) (c : Option Copy) → TellsIn scene s → TellsAfter scene (search_row s copy query sort c)
 unfolding search_row

@@ -1,7 +1,6 @@
 -- Each event leaves the messages, the polls and the kept requests such that they fit their followers' works.
 use Rattle.std.specs.Prelude.{slice_get, remove, nat_le, not}
-use Rattle.std.proofs.Common.{◌≡◌, ℕ, ◌<◌, Bool, false, Option, Some, None, List, [], ◌∷◌, length, refl, arith}
-use Rattle.std.proofs.lemmas.Bool.Decides.{nat_tests}
+use Rattle.std.proofs.Common.{◌≡◌, ℕ, Bool, Option, Some, None, List, [], ◌∷◌, length, refl}
 use Rattle.ccr_wire.specs.Message.{Frame, kind_of_content}
 use Rattle.ccr_query.specs.Queries.{Tree}
 use Rattle.ccr_query.specs.declared.sorting.SortKey.{SortKey}
@@ -30,6 +29,7 @@ use Rattle.ccr_law_kinds.proofs.LeaderAnswers.{HoldsFit, RowFits, copies_fit, wa
 use Rattle.ccr_law_kinds.proofs.Worlds.{WorldFits, FitsAfter, AreOrderly, NextIsUnheard, by_leader, one_less, by_follower, by_new_follower}
 use Rattle.ccr_law_base.proofs.Lists.{All-at}
 use Rattle.ccr_law_base.proofs.Cases.{on_if, on_guards}
+use Rattle.std.proofs.lemmas.Bool.{leb-false}
 
 -- an event of a follower
 on_followers : (s : State) (f : ℕ) (row : Follower → Outcome Follower) → AreOrderly s.followers → WorldFits s
@@ -82,15 +82,12 @@ by_wake s f at (Some follower) now =
 
 -- ---- new followers, searches
 
-not_above : (a b : ℕ) → nat_le a b ≡ false → b < a
-not_above a b isnt = grind (arith, nat_tests)
-
 by_follow : (s : State) (params : ParamValues) (copies : ℕ) (name : List ℕ) (same : Option ℕ) → NextIsUnheard s → WorldFits s → FitsAfter (follow_row s params copies name same)
 unfolding follow_row
 by_follow s params copies name (Some f) unheard now = now
 by_follow s params copies name None unheard now =
     on_guards FitsAfter s ((nat_le most_followers (length s.followers), TooMany) ∷ []) (with_new_follower s params copies name) (λ why. now)
-    (λ few. by_new_follower s params copies name (not_above most_followers (length s.followers) few.0) unheard now)
+    (λ few. by_new_follower s params copies name (leb-false most_followers (length s.followers) few.0) unheard now)
 
 by_search : (s : State) (copy : ℕ) (query : Tree) (sort : List SortKey) (c : Option Copy) → WorldFits s → FitsAfter (search_row s copy query sort c)
 unfolding search_row

@@ -12,14 +12,13 @@ use Rattle.ccr_model.specs.Step.{step}
 use Rattle.ccr_model.specs.FrameFacts.{next_request_of}
 use Rattle.ccr_law_frames.specs.Saying.{Setting, IsGoodWork}
 use Rattle.ccr_law_frames.specs.TrueFrames.{Scene, setting, IsOfFollower, frame_of_poll, frame_of_kept, Tells, scene_of}
-use Rattle.ccr_law_frames.proofs.Finds.{at-below}
 use Rattle.ccr_law_frames.proofs.Naming.{named-at}
 use Rattle.ccr_law_kinds.specs.Purposes.{about, awaited, Agree, AreAlike, HasPurposes, PurposesStart, PurposesKeep}
 use Rattle.ccr_law_kinds.proofs.Fitting.{FitsOwn, name_in}
 use Rattle.ccr_law_kinds.proofs.FollowerMoves.{AreReadsDrawn}
 use Rattle.ccr_law_kinds.proofs.Worlds.{FitsIn, WorldFits, AreOrderly, NextIsUnheard, names_differ}
 use Rattle.ccr_law_kinds.proofs.EachEvent.{each_fits}
-use Rattle.ccr_law_base.proofs.Lists.{All-weaker, All-both, some_equal}
+use Rattle.ccr_law_base.proofs.Lists.{All-weaker, All-both, some_equal, get_within}
 
 -- the message agrees with what its follower waits for
 abbrev AgreesOwn : List ℕ → Work → Frame → Type 0
@@ -80,7 +79,7 @@ world_fits scene s tells now = λ f own there.
 -- a message of a follower that was made is not under the name of the next
 not_next : (scene : Scene) (followers : List Follower) (m : Frame) (w : Work) → length followers ≤ most_followers → IsOfFollower scene followers m → FitsOwn (uuid_of (length followers)) w m
 not_next scene followers m w few of = λ named.
-    let low : of.number < length followers = at-below followers of.number of.follower of.there in
+    let low : of.number < length followers = get_within followers of.number of.follower of.there in
     let other : bytes_eq (uuid_of of.number) (uuid_of (length followers)) ≡ false = names_differ of.number (length followers) (omega arith) (omega arith) (grind (arith, nat_tests)) in
     let same : bytes_eq (uuid_of of.number) (uuid_of (length followers)) ≡ true = subst (λ (name : List ℕ). bytes_eq name (uuid_of (length followers)) ≡ true) of.truth.named named in
     absurd cc

@@ -12,11 +12,12 @@ use Rattle.ccr_model.specs.Restores.{Restore, Stage, leasing, opening, fetching,
 use Rattle.ccr_model.specs.Followers.{restoring}
 use Rattle.ccr_law_frames.specs.Asking.{IsNoMore}
 use Rattle.ccr_law_frames.proofs.Finds.{find-none}
-use Rattle.ccr_law_frames.proofs.AskLists.{asks_under, All-without, put_off}
+use Rattle.ccr_law_frames.proofs.AskLists.{asks_under, put_off}
 use Rattle.ccr_law_kinds.specs.Purposes.{Purpose, for_lease, for_session, for_part, awaited_in, Agree}
 use Rattle.ccr_law_kinds.proofs.Fitting.{Moves, none_stays_none, moves_then, moves_not}
-use Rattle.ccr_law_base.proofs.Lists.{All-push, find_none}
+use Rattle.ccr_law_base.proofs.Lists.{All-push, find_none, All-without_ask}
 use Rattle.ccr_law_base.proofs.Cases.{on_if}
+use Rattle.ccr_law_base.proofs.Tests.{and_false}
 
 -- no part was asked for under this number
 abbrev Unasked : ℕ → List ChunkAsked → Type 0
@@ -41,13 +42,9 @@ earlier_none purpose n request low =
     let other : (n == request) ≡ false = grind (arith, nat_tests) in
     ap (λ (b : Bool). if b && true then Some purpose else None) other
 
-never : (b : Bool) → (b && false) ≡ false
-never true = refl
-never false = refl
-
 -- what waits for a retry isn't awaited
 waiting_none : (purpose : Purpose) (b : Bool) → (if b && false then Some purpose else None) ≡ None
-waiting_none purpose b = ap (λ (c : Bool). if c then Some purpose else None) (never b)
+waiting_none purpose b = ap (λ (c : Bool). if c then Some purpose else None) (and_false b)
 
 abbrev RestoreMoves : List ℕ → Restore → Sending Restore → Type 0
 RestoreMoves uuid r done = Moves uuid (restoring r) (restoring done.next) done.sent
@@ -121,7 +118,7 @@ lost_at uuid r now request (fetching f) named =
     let next : Fetch = record f { asks = changed_ask request (put_off later) f.asks } in
     record {
       next = omega arith;
-      waits = λ n low. asks_wait f next n (λ none. later_none later request (λ k a. never (a.request == k)) f.asks n none);
+      waits = λ n low. asks_wait f next n (λ none. later_none later request (λ k a. and_false (a.request == k)) f.asks n none);
       named = named;
       messages = tt;
     }
@@ -137,7 +134,7 @@ again_moves uuid r f a named =
     record {
       next = omega arith;
       waits = λ n low. asks_wait f next n
-          (λ none. last_none (without_ask a.request f.asks) new n r.next_request refl low (All-without (λ (x : ChunkAsked). asks_under n x ≡ false) a.request f.asks none));
+          (λ none. last_none (without_ask a.request f.asks) new n r.next_request refl low (All-without_ask (λ (x : ChunkAsked). asks_under n x ≡ false) a.request f.asks none));
       named = named;
       messages = (record { named = named; fits = record { drawn = omega arith; agrees = parts_agree next r.next_request } }, tt);
     }
@@ -195,7 +192,7 @@ came_moves uuid r f a bytes named =
     moves_then uuid (restoring (at_fetch r f)) (restoring (at_fetch begun next)) (restoring (asks_more begun next).next) [] (asks_more begun next).sent
     (record {
       next = omega arith;
-      waits = λ n low. asks_wait f next n (λ none. All-without (λ (x : ChunkAsked). asks_under n x ≡ false) a.request f.asks none);
+      waits = λ n low. asks_wait f next n (λ none. All-without_ask (λ (x : ChunkAsked). asks_under n x ≡ false) a.request f.asks none);
       named = named;
       messages = tt;
     }) (more_move uuid begun next named)

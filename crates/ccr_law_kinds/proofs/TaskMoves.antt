@@ -1,7 +1,7 @@
 -- What a task sends, but for the upkeep of its lease, is about reads; and a number that was drawn stands for no read that it didn't stand for.
 use Rattle.std.specs.Prelude.{filter, is_some, ◌==◌, ◌&&◌}
 use Rattle.std.specs.List.{AllByRecursion}
-use Rattle.std.proofs.Common.{◌≡◌, ℕ, zero, suc, ◌+◌, ◌-◌, ◌<◌, ◌≤◌, min, Bool, true, false, nat_lt, if◌then◌else◌, Option, Some, None, List, [], ◌∷◌, ◌++◌, length, refl, ◌∙◌, ap, arith, inr}
+use Rattle.std.proofs.Common.{◌≡◌, ℕ, zero, suc, ◌+◌, ◌-◌, ◌<◌, ◌≤◌, min, Bool, false, nat_lt, if◌then◌else◌, Option, Some, None, List, [], ◌∷◌, ◌++◌, length, refl, ◌∙◌, ap, arith, inr}
 use Rattle.std.proofs.lemmas.Bool.Decides.{nat_tests}
 use Rattle.ccr_op.specs.Operation.{Operation}
 use Rattle.ccr_wire.specs.declared.content.Content.{Content}
@@ -20,6 +20,7 @@ use Rattle.ccr_law_kinds.specs.Purposes.{Purpose, for_read, about, awaited, Agre
 use Rattle.ccr_law_kinds.proofs.Fitting.{Moves, none_stays_none, nothing_awaited, moves_then, moves_not}
 use Rattle.ccr_law_base.proofs.Lists.{All-weaker, All-push, find_none, All-changed_read, All-without_read}
 use Rattle.ccr_law_base.proofs.Cases.{on_if}
+use Rattle.ccr_law_base.proofs.Tests.{and_false}
 
 -- no read was sent under this number
 abbrev Unread : ℕ → List Read → Type 0
@@ -152,14 +153,10 @@ started_moves uuid w params count epoch history follower request later named =
 
 -- ---- replies, losses and retries
 
-never : (b : Bool) → (b && false) ≡ false
-never true = refl
-never false = refl
-
 -- a read that is changed is not in the sent state then
 held_none : (q : ℕ) (f : Read → Read) → ((r : Read) → is_sent (f r).progress ≡ false) → (reads : List Read) (n : ℕ) → Unread n reads → Unread n (changed_read q f reads)
 held_none q f held reads n none =
-    All-changed_read (λ (x : Read). answers_to n x ≡ false) q f (λ x was. ap (λ (b : Bool). ((f x).request == n) && b) (held x) ∙ never ((f x).request == n)) reads none
+    All-changed_read (λ (x : Read). answers_to n x ≡ false) q f (λ x was. ap (λ (b : Bool). ((f x).request == n) && b) (held x) ∙ and_false ((f x).request == n)) reads none
 
 reply_none : (r : Read) (ops : List Operation) (reads : List Read) (n : ℕ) → Unread n reads → Unread n (reads_after r ops reads)
 reply_none r ops reads n none =

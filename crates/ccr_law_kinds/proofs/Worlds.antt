@@ -15,14 +15,14 @@ use Rattle.ccr_model.specs.Leaders.{Leader, KeptRequest, Poll}
 use Rattle.ccr_model.specs.Followers.{Follower, Work, uuid_of, new_follower}
 use Rattle.ccr_model.specs.World.{State, at_leader, for_follower, most_followers, with_new_follower}
 use Rattle.ccr_law_frames.specs.TrueFrames.{frame_of_poll, frame_of_kept}
-use Rattle.ccr_law_frames.proofs.Finds.{at-below, push-at}
+use Rattle.ccr_law_frames.proofs.Finds.{push-at}
 use Rattle.ccr_law_frames.proofs.Naming.{differs}
 use Rattle.ccr_law_kinds.specs.Purposes.{for_lease, for_read, about}
 use Rattle.ccr_law_kinds.proofs.Fitting.{FitsOwn, IsOwn, Moves, name_in, fits_on}
 use Rattle.ccr_law_kinds.proofs.RestoreMoves.{lease_moves}
 use Rattle.ccr_law_kinds.proofs.FollowerMoves.{RowMoves, AreReadsDrawn}
 use Rattle.ccr_law_kinds.proofs.LeaderAnswers.{AllFit, RowFits}
-use Rattle.ccr_law_base.proofs.Lists.{All-weaker, All-append, All-remove, some_equal, set-other, set-same}
+use Rattle.ccr_law_base.proofs.Lists.{All-weaker, All-append, All-remove, some_equal, set-other, set-same, get_within}
 
 -- the messages in flight, the polls and the kept requests under a name fit the work
 abbrev pub FitsIn : State → List ℕ → Work → Type 0
@@ -115,8 +115,8 @@ by_follower s f row (Some x) at orderly now moves = λ g own there.
           (subst (λ (k : ℕ). AllFit (uuid_of k) next.work (s.flight ++ sent) s.leader.polls s.leader.kept) same moved)
       | false ↦ λ other.
           let was : slice_get s.followers g ≡ Some own = sym (set-other s.followers f g next other) ∙ there in
-          let low : f < length s.followers = at-below s.followers f x at in
-          let high : g < length s.followers = at-below s.followers g own was in
+          let low : f < length s.followers = get_within s.followers f x at in
+          let high : g < length s.followers = get_within s.followers g own was in
           let few : length s.followers ≤ most_followers = orderly.few in
           left_alone (uuid_of f) (uuid_of g) own.work next.work sent s.flight s.leader.polls s.leader.kept (names_differ f g (omega arith) (omega arith) other) one.messages (now g own was)
     ]) refl
@@ -151,7 +151,7 @@ by_new_follower s params copies name few unheard now = λ g own there.
     let all : AllByRecursion (IsOwn (uuid_of last) new.work) sent = new_own last params copies name s.leader.start.retention in
     (elim (push-at s.followers g own new there) as (λ _. AllFit (uuid_of g) own.work (s.flight ++ sent) s.leader.polls s.leader.kept) [
       | inl old ↦
-          let low : g < length s.followers = at-below s.followers g own old in
+          let low : g < length s.followers = get_within s.followers g own old in
           left_alone (uuid_of last) (uuid_of g) own.work new.work sent s.flight s.leader.polls s.leader.kept (names_differ last g (omega arith) (omega arith) (grind (arith, nat_tests))) all (now g own old)
       | inr made ↦
           let begun : AllFit (uuid_of last) new.work (s.flight ++ sent) s.leader.polls s.leader.kept = record {

@@ -1,5 +1,5 @@
 -- Answers to requests for leases: each copy has the lease, and its floor is not above the number that is answered.
-use Rattle.std.proofs.Common.{◌≡◌, ℕ, ◌≤◌, Bool, true, false, not, List, [], ◌∷◌, ◌++◌, map, refl, sym, subst, arith, append_assoc}
+use Rattle.std.proofs.Common.{◌≡◌, ℕ, ◌≤◌, true, false, not, List, [], ◌∷◌, ◌++◌, map, refl, sym, subst, arith, append_assoc}
 use Rattle.std.specs.Prelude.{Option, Some, None, filter, find, max}
 use Rattle.std.specs.Option.{option_map}
 use Rattle.std.specs.List.{AllByRecursion}
@@ -15,6 +15,7 @@ use Rattle.ccr_law_leases.specs.TrueLeases.{AreTrueLeasesOf}
 use Rattle.ccr_law_base.proofs.Lists.{All-weaker, All-map_back, All-both, find_none}
 use Rattle.ccr_law_leases.proofs.Finding.{All-pass}
 use Rattle.ccr_law_leases.proofs.Notes.{Bears, true-answer}
+use Rattle.std.proofs.lemmas.Bool.{not-false}
 
 -- each floor is at most the greatest
 greatest-least : (cs : List Copy) → AllByRecursion (λ (c : Copy). c.floor ≤ greatest (map {A = Copy} {B = ℕ} (λ c. c.floor) cs)) cs
@@ -33,10 +34,6 @@ answered-true id place notes s all are =
     true-answer id place (greatest_floor s) notes s.term s.primary.leases s.primary.floor s.replicas both.0
     (All-map_back (λ (c : Copy). Bears id (greatest_floor s) c.leases.leases c.floor) (λ (r : Replica). r.copy) s.replicas both.1) are
 
-holds : (b : Bool) → not b ≡ false → b ≡ true
-holds true isnt = refl
-holds false isnt = absurd cc
-
 no-number : (found : Option Copy) → option_map {T = Copy} {U = ℕ} (λ c. c.number) found ≡ None → found ≡ None
 no-number None none = refl
 no-number (Some c) none = absurd cc
@@ -44,7 +41,7 @@ no-number (Some c) none = absurd cc
 -- where no copy lacks the lease, each has it
 pub none-lacks : (id : List ℕ) (s : Copies) → lacks_lease id s ≡ None → AllByRecursion (λ (c : Copy). has_lease id c ≡ true) (all_copies s)
 none-lacks id s none =
-    All-weaker (λ (c : Copy). not (has_lease id c) ≡ false) (λ (c : Copy). has_lease id c ≡ true) (λ c it. holds (has_lease id c) it) (all_copies s)
+    All-weaker (λ (c : Copy). not (has_lease id c) ≡ false) (λ (c : Copy). has_lease id c ≡ true) (λ c it. not-false (has_lease id c) it) (all_copies s)
     (find_none (λ c. not (has_lease id c)) (all_copies s) (no-number (find (λ c. not (has_lease id c)) (all_copies s)) none))
 
 -- ---- kept requests

@@ -10,6 +10,7 @@ use Rattle.ccr_model.specs.LeaderRows.{expire_row}
 use Rattle.ccr_law_base.proofs.Cases.{on_if}
 use Rattle.ccr_law_base.proofs.Lists.{All-weaker, All-filter_test}
 use Rattle.ccr_law_leases.specs.Expiries.{ExpiresRightly, ExpiriesAreRight}
+use Rattle.std.proofs.lemmas.Bool.{not-true}
 
 kept_in : (test : Lease → Bool) (leases : List Lease) (lease : Lease) → IsIn leases lease → test lease ≡ true → IsIn (filter test leases) lease
 kept_in test [] lease there is = there
@@ -38,10 +39,6 @@ within now period lease le = let isnt : nat_lt (lease.stamp + period) now ≡ fa
 not_over : (now end : ℕ) → nat_lt end now ≡ false → ¬ (end < now)
 not_over now end isnt lt = let is : nat_lt end now ≡ true = grind (arith, nat_tests) in cc
 
-turned : (b : Bool) → not b ≡ true → b ≡ false
-turned true is = cc
-turned false is = refl
-
 pub expires-rightly : ExpiriesAreRight
 unfolding expire_row
 expires-rightly s picks =
@@ -49,7 +46,7 @@ expires-rightly s picks =
     (λ some. record {
       kept = λ lease there le. kept_in (λ (x : Lease). not (has_expired now period x)) c.leases lease there (within now period lease le);
       gone = All-weaker (λ (x : Lease). not (has_expired now period x) ≡ true) (λ (x : Lease). ¬ (x.stamp + period < now))
-          (λ x is. not_over now (x.stamp + period) (turned (has_expired now period x) is)) (unexpired now period c.leases)
+          (λ x is. not_over now (x.stamp + period) (not-true (has_expired now period x) is)) (unexpired now period c.leases)
           (All-filter_test (λ (x : Lease). not (has_expired now period x)) c.leases);
     })
     (λ none. record {

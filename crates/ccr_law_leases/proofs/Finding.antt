@@ -1,13 +1,10 @@
 -- Lemmas on what a test finds in a list, and on what a filter or one more element leaves.
-use Rattle.std.proofs.Common.{◌≡◌, ℕ, suc, zero, Bool, true, false, ◌||◌, ◌&&◌, List, [], ◌∷◌, ◌++◌, map, take, drop, refl, ap, ◌∙◌}
+use Rattle.std.proofs.Common.{◌≡◌, ℕ, suc, zero, Bool, true, false, ◌||◌, List, [], ◌∷◌, ◌++◌, map, take, drop, refl, ap, ◌∙◌}
 use Rattle.std.specs.Prelude.{Option, Some, None, is_some, filter}
 use Rattle.std.specs.List.{AllByRecursion, list_any, list_all}
 use Rattle.ccr_law_base.proofs.Cases.{on_if}
 use Rattle.ccr_law_base.proofs.Tests.{or-more}
-
-pub or-left : (a b : Bool) → a ≡ true → (a || b) ≡ true
-or-left true b is = refl
-or-left false b is = absurd cc
+use Rattle.std.proofs.lemmas.Bool.{and_parts, or_left}
 
 pub or-right : (a b : Bool) → b ≡ true → (a || b) ≡ true
 or-right true b is = refl
@@ -32,13 +29,9 @@ All-unfilter P test (x ∷ xs) all =
     (λ passes these. (λ it. these.0, All-unfilter P test xs these.1))
     (λ fails these. (λ passes. absurd cc, All-unfilter P test xs these)) all
 
-pub and-true : (a b : Bool) → (a && b) ≡ true → (a ≡ true) × (b ≡ true)
-and-true true b both = (refl, both)
-and-true false b both = absurd cc
-
 pub All-pass : {X : Type 0} (test : X → Bool) (xs : List X) → list_all test xs ≡ true → AllByRecursion (λ x. test x ≡ true) xs
 All-pass test [] all = tt
-All-pass test (x ∷ xs) all = let both = and-true (test x) (list_all test xs) all in (both.0, All-pass test xs both.1)
+All-pass test (x ∷ xs) all = let both = and_parts (test x) (list_all test xs) all in (both.0, All-pass test xs both.1)
 
 -- ---- what a test finds
 
@@ -53,8 +46,8 @@ any-put test (suc n) new (x ∷ xs) some = or-more (test x) (list_any test xs) (
 
 -- the one that is put into a list is found
 pub any-new : {X : Type 0} (test : X → Bool) (n : ℕ) (new : X) (xs : List X) → test new ≡ true → list_any test (take n xs ++ new ∷ drop n xs) ≡ true
-any-new test zero new xs passes = or-left (test new) (list_any test xs) passes
-any-new test (suc n) new [] passes = or-left (test new) false passes
+any-new test zero new xs passes = or_left (test new) (list_any test xs) passes
+any-new test (suc n) new [] passes = or_left (test new) false passes
 any-new test (suc n) new (x ∷ xs) passes = or-right (test x) (list_any test (take n xs ++ new ∷ drop n xs)) (any-new test n new xs passes)
 
 -- a filter that keeps all that pass loses none of them

@@ -17,7 +17,7 @@ use Rattle.ccr_journal.specs.declared.replies.Reply.{Reply}
 use Rattle.ccr_journal.specs.declared.replies.Reply.TheVariants as replies
 use Rattle.ccr_journal.specs.declared.replies.Refusal.TheVariants.{NoFollower}
 use Rattle.ccr_law_base.specs.Events.{past_by}
-use Rattle.ccr_law_base.proofs.Cases.{on_if, on_guards}
+use Rattle.ccr_law_base.proofs.Cases.{on_if, on_guards, read_answered}
 use Rattle.ccr_law_base.proofs.Journals.{by_events, by_entries}
 use Rattle.ccr_model.specs.Outcomes.{Outcome, refused, within}
 use Rattle.ccr_model.specs.Operations.{live}
@@ -37,7 +37,7 @@ use Rattle.ccr_law_base.proofs.Lists.{All-every, All-map}
 use Rattle.ccr_law_leases.proofs.Collections.{loss_at, true-losses, true-next, agree-expired}
 use Rattle.ccr_law_leases.proofs.Rows.{write-true, replicate-true, ack-true, resync-true, sync-behind, true-replaced, behind-found, fail-copy-true, add-copy-true, flush-true, merge-true, promote-true}
 use Rattle.ccr_law_leases.proofs.Answers.{answers-true, settling-same}
-use Rattle.ccr_law_leases.proofs.Messages.{read-answered, received-true}
+use Rattle.ccr_law_leases.proofs.Messages.{received-true}
 
 -- ---- events of the leader's side
 
@@ -99,7 +99,7 @@ wake-true notes s follower at None c are = are
 wake-true notes s follower at (Some p) None are = are
 wake-true notes s follower at (Some p) (Some c) are =
     let P : Outcome Leader → Type 0 = λ (o : Outcome Leader). AreTrueLeasesOf notes o.next.copies in
-    on_guards P s _ _ (λ why. are) (λ tests. read-answered P s p c _ (λ what sent. are))
+    on_guards P s _ _ (λ why. are) (λ tests. read_answered P s p c _ (λ what sent. are))
 
 woken-true : (notes : List LeaseNote) (s : State) (f at : ℕ) (found : Option Follower) → AreTrueLeasesOf notes s.leader.copies
     → AreTrueLeasesOf notes (woken s f at found).next.leader.copies

@@ -1,7 +1,6 @@
 -- The messages that come to the leader keep what is true of its leases.
 use Rattle.std.proofs.Common.{◌≡◌, ℕ, ◌+◌, Bool, true, false, List, [], ◌∷◌, ◌++◌, refl}
-use Rattle.std.specs.Prelude.{Option, Some, None, nat_lt, not, if◌then◌else◌}
-use Rattle.std.specs.Str.{bytes_eq}
+use Rattle.std.specs.Prelude.{Option, Some, None, nat_lt, if◌then◌else◌}
 use Rattle.ccr_lease.specs.declared.retention.Lease.{Lease}
 use Rattle.ccr_lease.specs.Leases.{Collection, lease_of, place_of, with_lease, renewed, without}
 use Rattle.ccr_wire.specs.Message.{Frame}
@@ -9,12 +8,11 @@ use Rattle.ccr_wire.specs.declared.content.Content.{Content}
 use Rattle.ccr_wire.specs.declared.content.Content.TheVariants as contents
 use Rattle.ccr_journal.specs.declared.events.Event.TheVariants as events
 use Rattle.ccr_journal.specs.declared.replies.Reply.{Reply}
-use Rattle.ccr_journal.specs.declared.replies.Heard.{Heard as Hearing}
-use Rattle.ccr_law_base.proofs.Cases.{on_if}
+use Rattle.ccr_law_base.proofs.Cases.{on_if, read_answered}
 use Rattle.ccr_model.specs.Outcomes.{Outcome}
 use Rattle.ccr_model.specs.Copies.{Copy, Copies, copy_of, not_ready, greatest_floor, has_lease, lacks_lease}
 use Rattle.ccr_model.specs.Leaders.{Leader, Session, KeptRequest, Poll, session_of}
-use Rattle.ccr_model.specs.LeaderFrames.{hears, answer_read, has_to_wait, read_row, with_leases, with_new_lease, answer_or_keep, lease_add_row, lease_renew_row, lease_remove_row, session_open_row, chunk_row, receive_row, leader_receive}
+use Rattle.ccr_model.specs.LeaderFrames.{has_to_wait, read_row, with_leases, with_new_lease, answer_or_keep, lease_add_row, lease_renew_row, lease_remove_row, session_open_row, chunk_row, receive_row, leader_receive}
 use Rattle.ccr_model.specs.LeaseHistory.{LeaseNote, notes_of, notes_of_kept, notes_of_add, notes_of_content}
 use Rattle.ccr_model.specs.LeaseHistory as history
 use Rattle.ccr_law_leases.specs.TrueLeases.{AreTrueLeasesOf}
@@ -25,14 +23,6 @@ use Rattle.ccr_law_leases.proofs.Answers.{answered-true, none-lacks, answers-the
 -- what is true after a message about this came to the leader, where it was answered so
 abbrev pub IsTrueHeard : Leader → ℕ → List LeaseNote → ℕ → ℕ → Bool → Frame → Reply → Copies → Type 0
 IsTrueHeard s place notes at copy keep m reply next = AreTrueLeasesOf (notes_of s next place (Some m) (events.Deliver at copy keep) reply ++ notes) next
-
--- ---- reads
-
--- a read is answered in one of three ways, which leave the copies
-pub read-answered : (P : Outcome Leader → Type 0) (s : Leader) (p : Poll) (c : Copy) (next : Leader) → ((what : Hearing) (sent : List Frame) → P (hears what next sent)) → P (answer_read s p c next)
-read-answered P s p c next heard =
-    on_if P (not (bytes_eq p.history s.start.history)) _ _ (λ other. heard _ _)
-    (λ same. on_if P (nat_lt p.from c.floor) _ _ (λ below. heard _ _) (λ above. heard _ _))
 
 -- ---- requests for leases
 
@@ -119,7 +109,7 @@ read-true s place notes at copy keep follower request uuid from max_ops max_byte
     let P : Outcome Leader → Type 0 = λ (o : Outcome Leader).
     IsTrueHeard s place notes at copy keep (record { follower = follower; request = request; content = contents.ReadRequest uuid from max_ops max_bytes timeout }) o.reply o.next.copies in
     on_if P (has_to_wait s p c) _ _ (λ waits. answers-then-true s s.copies place [] notes are)
-    (λ answers. read-answered P s p c s (λ what sent. answers-then-true s s.copies place [] notes are))
+    (λ answers. read_answered P s p c s (λ what sent. answers-then-true s s.copies place [] notes are))
 
 pub session-open-true : (s : Leader) (place : ℕ) (notes : List LeaseNote) (at copy : ℕ) (keep : Bool) (follower : List ℕ) (request : ℕ) (waits : Option ℕ)
     → AreTrueLeasesOf notes s.copies

@@ -3,7 +3,7 @@ use Rattle.std.proofs.Common.{◌≡◌, ℕ, ◌+◌, ◌<◌, Bool, true, fals
 use Rattle.std.specs.Prelude.{Option, Some, None, nat_lt, ◌==◌, filter, if◌then◌else◌}
 use Rattle.std.specs.Str.{bytes_eq}
 use Rattle.std.specs.List.{AllByRecursion, list_any}
-use Rattle.std.proofs.lemmas.Bool.{lt-ltb}
+use Rattle.std.proofs.lemmas.Bool.{lt-ltb, and_parts, or_left}
 use Rattle.std.proofs.lemmas.Bool.Decides.{Decides-eqb}
 use Rattle.ccr_lease.specs.declared.retention.Expired.{Expired}
 use Rattle.ccr_wire.specs.Message.{Frame}
@@ -32,8 +32,8 @@ use Rattle.ccr_model.specs.World.{start_state}
 use Rattle.ccr_model.specs.Past.{Past, start_past, past_of, delivered_to_leader}
 use Rattle.ccr_law_leases.specs.NoteOrder.{is_answer, IsAnsweredAt, ComesAfter, LossesComeAfter, AreInOrder, HasNotesInOrder, StaysUnbroken}
 use Rattle.ccr_law_base.proofs.Lists.{All-weaker, All-every, All-append, All-map}
-use Rattle.ccr_law_leases.proofs.Finding.{and-true, or-left}
 use Rattle.ccr_law_leases.proofs.Messages.{adding}
+use Rattle.ccr_law_base.proofs.Tests.{or_second}
 
 -- ---- the notes of one entry
 
@@ -147,10 +147,6 @@ order-holds start counts entries legal = by_entries HasNotesInOrder (by_events H
 
 -- ---- what was answered and not lost since
 
-or-none : (a b : Bool) → (a || b) ≡ false → b ≡ false
-or-none true b none = absurd cc
-or-none false b none = none
-
 -- the test of `IsAnsweredAt`
 abbrev pub is_answered_at : List ℕ → ℕ → LeaseNote → Bool
 is_answered_at id place note = bytes_eq note.id id && (is_answer note.deed && (note.place == place))
@@ -162,8 +158,8 @@ later-loss id place note [] after loss some = absurd cc
 later-loss id place note (older ∷ notes) after loss some =
     (elim (is_answered_at id place older) as (λ b. is_answered_at id place older ≡ b → (b || list_any (is_answered_at id place) notes) ≡ true → nat_lt place note.place ≡ true) [
       | true ↦ λ is any.
-          let parts = and-true (bytes_eq older.id id) (is_answer older.deed && (older.place == place)) is in
-          let both = and-true (is_answer older.deed) (older.place == place) parts.1 in
+          let parts = and_parts (bytes_eq older.id id) (is_answer older.deed && (older.place == place)) is in
+          let both = and_parts (is_answer older.deed) (older.place == place) parts.1 in
           let same : older.place ≡ place = (Decides-eqb older.place place).0 both.1 in
           let less : older.place < note.place = after.0 loss both.0 in
           lt-ltb place note.place (omega arith)
@@ -176,15 +172,15 @@ own-note : (deed : LeaseDeed) (same later some tail lost : Bool) → (some ≡ t
 own-note (history.added number) same later some tail lost before after is kept = before is
 own-note (history.answered number) same later some tail lost before after is kept = refl
 own-note (history.renewed number) same later some tail lost before after is kept = before is
-own-note history.dropped same later some tail lost before after is kept = absurd (let gone = or-left later lost (after refl is) in cc)
-own-note history.removed same later some tail lost before after is kept = absurd (let gone = or-left later lost (after refl is) in cc)
+own-note history.dropped same later some tail lost before after is kept = absurd (let gone = or_left later lost (after refl is) in cc)
+own-note history.removed same later some tail lost before after is kept = absurd (let gone = or_left later lost (after refl is) in cc)
 
 -- a lease that an entry answered, and that none after it dropped or removed, is unbroken
 pub unbroken-since : (id : List ℕ) (place : ℕ) (notes : List LeaseNote) → LossesComeAfter notes → IsAnsweredAt id place notes → is_lost_after id place notes ≡ false
     → is_unbroken id notes ≡ true
 unbroken-since id place [] order answered kept = absurd cc
 unbroken-since id place (note ∷ notes) order answered kept =
-    let before : IsAnsweredAt id place notes → is_unbroken id notes ≡ true = λ some. unbroken-since id place notes order.1 some (or-none _ (is_lost_after id place notes) kept) in
+    let before : IsAnsweredAt id place notes → is_unbroken id notes ≡ true = λ some. unbroken-since id place notes order.1 some (or_second _ (is_lost_after id place notes) kept) in
     (elim (bytes_eq note.id id) as (λ own.
     ((own && (is_answer note.deed && (note.place == place))) || list_any (is_answered_at id place) notes) ≡ true
     → ((own && is_loss note.deed && nat_lt place note.place) || is_lost_after id place notes) ≡ false

@@ -2,7 +2,7 @@
 use Rattle.std.proofs.Common.{ℕ, ◌≤◌, ◌<◌, List, [], ◌∷◌, arith}
 use Rattle.std.specs.Prelude.{Option, Some, None, nat_lt, IfSome}
 use Rattle.std.specs.List.{AllByRecursion}
-use Rattle.std.proofs.lemmas.Bool.{ltb-true}
+use Rattle.std.proofs.lemmas.Bool.{ltb-true, and_parts}
 use Rattle.ccr_op.specs.Operation.{Operation}
 use Rattle.ccr_lease.specs.declared.retention.Lease.{Lease}
 use Rattle.ccr_journal.specs.declared.sides.Side.TheVariants as sides
@@ -20,7 +20,6 @@ use Rattle.ccr_model.specs.Past.{Past}
 use Rattle.ccr_model.specs.Headline.{DropsBelowLeases, MergesSafely}
 use Rattle.ccr_law_leases.specs.TrueLeases.{AgreeWithNotes, AreBehind, HasTrueLeases, RetainsInAll}
 use Rattle.ccr_law_base.proofs.Lists.{All-weaker}
-use Rattle.ccr_law_leases.proofs.Finding.{and-true}
 use Rattle.ccr_law_leases.proofs.Collections.{capped-low}
 
 -- ---- what the leases retain
@@ -45,7 +44,7 @@ dropped-low bound count ops [] = tt
 dropped-low bound count ops (op ∷ picked) =
     on_if (λ (ns : List ℕ). AllByRecursion (λ (n : ℕ). n < bound) ns) (is_droppable bound count ops op)
     (op.seq ∷ dropped bound count (without_number op.seq ops) picked) (dropped bound count ops picked)
-    (λ goes. (ltb-true op.seq bound (and-true (nat_lt op.seq bound) _ goes).0, dropped-low bound count (without_number op.seq ops) picked))
+    (λ goes. (ltb-true op.seq bound (and_parts (nat_lt op.seq bound) _ goes).0, dropped-low bound count (without_number op.seq ops) picked))
     (λ stays. dropped-low bound count ops picked)
 
 -- the bound of a merge is at most the number of each of the copy's leases

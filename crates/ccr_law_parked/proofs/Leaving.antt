@@ -9,10 +9,11 @@ use Rattle.ccr_model.specs.Copies.{Copy, Replica, Copies, replica_of, taking, wi
 use Rattle.ccr_model.specs.CopyRows.{succeeded, unknown}
 use Rattle.ccr_model.specs.Leaders.{Poll}
 use Rattle.ccr_model.specs.LeaderRows.{filled, as_primary, missing_numbers}
-use Rattle.ccr_law_base.proofs.Tests.{or-more}
+use Rattle.ccr_law_base.proofs.Tests.{or-more, or_true, other_turned}
 use Rattle.ccr_law_parked.specs.Parked.{ArePollsThere}
 use Rattle.ccr_law_parked.proofs.Alike.{replica_numbers, is_among, stays_there}
 use Rattle.ccr_law_parked.proofs.Staying.{polls_pass}
+use Rattle.std.proofs.lemmas.Bool.{not-true}
 
 unequal_to_equal : (a b c : ℕ) → (a == b) ≡ true → (c == b) ≡ false → (a == c) ≡ false
 unequal_to_equal a b c same other = grind (arith, nat_tests)
@@ -23,17 +24,6 @@ both_equal a b c first second = grind (arith, nat_tests)
 or_second : (a b : Bool) → a ≡ false → (a || b) ≡ true → b ≡ true
 or_second true b isnt passes = absurd cc
 or_second false b isnt passes = passes
-
-pub false_by_not : (b : Bool) → not b ≡ true → b ≡ false
-false_by_not true passes = absurd cc
-false_by_not false passes = refl
-
-unequal_turned : (a b : ℕ) → (a == b) ≡ false → (b == a) ≡ false
-unequal_turned a b other = grind (arith, nat_tests)
-
-or_true : (a : Bool) → (a || true) ≡ true
-or_true true = refl
-or_true false = refl
 
 -- a replica of another number than the one that leaves is still there
 others_stay : (k copy : ℕ) (rs : List Replica) → (k == copy) ≡ false → is_among k rs ≡ true → is_among k (without copy rs) ≡ true
@@ -49,7 +39,7 @@ polls_after_leaving s copy polls all =
     let next : Copies = counted record s { replicas = without copy s.replicas } in
     polls_pass s next (λ p. not (p.copy == copy)) polls
     (λ p passes there. stays_there s next p.copy (or-more (s.primary.number == p.copy) (is_among p.copy s.replicas)
-    (is_among p.copy (without copy s.replicas)) (others_stay p.copy copy s.replicas (false_by_not (p.copy == copy) passes))) there) all
+    (is_among p.copy (without copy s.replicas)) (others_stay p.copy copy s.replicas (not-true (p.copy == copy) passes))) there) all
 
 -- ---- promotions
 
@@ -77,7 +67,7 @@ polls_after_promotion s term copy r polls found all =
     (All-find (λ (x : Replica). Unit {0}) (λ x. x.copy.number == copy) s.replicas r (All-every (λ (x : Replica). Unit {0}) (λ x. tt) s.replicas) found).1 in
     polls_pass s next (λ p. not (p.copy == s.primary.number)) polls
     (λ p passes there. stays_there s next p.copy (λ before.
-    let other : (s.primary.number == p.copy) ≡ false = unequal_turned p.copy s.primary.number (false_by_not (p.copy == s.primary.number) passes) in
+    let other : (s.primary.number == p.copy) ≡ false = other_turned p.copy s.primary.number (not-true (p.copy == s.primary.number) passes) in
     let among : is_among p.copy s.replicas ≡ true = or_second (s.primary.number == p.copy) (is_among p.copy s.replicas) other before in
     rw (filled_number term (missing_numbers r.copy.seen) r.copy)
     (rw (unknown_numbers (without copy s.replicas)) (promoted_or_other p.copy copy r.copy.number s.replicas number among))) there) all

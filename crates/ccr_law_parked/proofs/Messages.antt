@@ -1,31 +1,22 @@
 -- What waits at the leader waits rightly after each message that the leader takes, and after a poll is answered.
-use Rattle.std.specs.Prelude.{is_some, not, nat_lt}
-use Rattle.std.specs.Str.{bytes_eq}
+use Rattle.std.specs.Prelude.{is_some, nat_lt}
 use Rattle.std.proofs.Common.{◌≡◌, ℕ, true, Option, Some, None, List, refl, ap}
 use Rattle.ccr_lease.specs.declared.retention.Lease.{Lease}
 use Rattle.ccr_lease.specs.Leases.{Collection, lease_of}
 use Rattle.ccr_wire.specs.Message.{Frame}
 use Rattle.ccr_wire.specs.declared.content.Content.{Content}
 use Rattle.ccr_wire.specs.declared.content.Content.TheVariants as contents
-use Rattle.ccr_journal.specs.declared.replies.Heard.{Heard as Hearing}
-use Rattle.ccr_law_base.proofs.Cases.{on_if, on_guards}
+use Rattle.ccr_law_base.proofs.Cases.{on_if, on_guards, read_answered}
 use Rattle.ccr_law_base.proofs.Lists.{All-push, All-without_poll}
 use Rattle.ccr_model.specs.Outcomes.{Outcome}
 use Rattle.ccr_model.specs.Copies.{Copy, copy_of, not_ready, has_lease}
 use Rattle.ccr_model.specs.Leaders.{Leader, Session, KeptRequest, Poll, without_poll, session_of}
-use Rattle.ccr_model.specs.LeaderFrames.{hears, answer_read, has_to_wait, read_row, wake_row, with_leases, with_new_lease, answer_or_keep, lease_add_row, lease_renew_row, lease_remove_row, session_open_row, chunk_row, receive_row, leader_receive}
+use Rattle.ccr_model.specs.LeaderFrames.{has_to_wait, read_row, wake_row, with_leases, with_new_lease, answer_or_keep, lease_add_row, lease_renew_row, lease_remove_row, session_open_row, chunk_row, receive_row, leader_receive}
 use Rattle.ccr_law_parked.specs.Parked.{ArePollsThere, IsParkedRightly}
 use Rattle.ccr_law_parked.proofs.Staying.{polls_stay}
 use Rattle.ccr_law_parked.proofs.Settling.{IsRightToSettle, right_if_refused, right_if_heard, settled_parked}
 
 -- ---- reads and polls
-
--- a read is answered in one of three ways
-read_answered : (P : Outcome Leader → Type 0) (l : Leader) (p : Poll) (c : Copy) (next : Leader)
-    → ((what : Hearing) (sent : List Frame) → P (hears what next sent)) → P (answer_read l p c next)
-read_answered P l p c next heard =
-    on_if P (not (bytes_eq p.history l.start.history)) _ _ (λ other. heard _ _)
-    (λ same. on_if P (nat_lt p.from c.floor) _ _ (λ below. heard _ _) (λ above. heard _ _))
 
 read_right : (l : Leader) (p : Poll) (found : Option Copy) → copy_of l.copies p.copy ≡ found → IsParkedRightly l → IsRightToSettle (read_row l p p.copy found)
 unfolding read_row

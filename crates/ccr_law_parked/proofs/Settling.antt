@@ -12,7 +12,7 @@ use Rattle.ccr_model.specs.Leaders.{Leader, KeptRequest}
 use Rattle.ccr_model.specs.LeaderRows.{all_hold, answering_kept, settling_requests}
 use Rattle.ccr_model.specs.LeaderFrames.{hears}
 use Rattle.ccr_law_parked.specs.Parked.{AreKeptRightly, ArePollsThere, IsParkedRightly}
-use Rattle.ccr_law_parked.proofs.Leaving.{false_by_not}
+use Rattle.std.proofs.lemmas.Bool.{not-true}
 
 -- the polls wait rightly, and so do the kept requests where the event was refused
 pub record IsRightToSettle (o : Outcome Leader) : Type 0 where
@@ -27,7 +27,7 @@ right_if_heard what next sent polls = record { polls = polls; kept = λ why is. 
 
 left_kept : (s : Copies) (kept : List KeptRequest) → AreKeptRightly s (filter (λ k. not (all_hold k.id s)) kept)
 left_kept s kept =
-    All-weaker (λ (k : KeptRequest). not (all_hold k.id s) ≡ true) (λ (k : KeptRequest). all_hold k.id s ≡ false) (λ k left. false_by_not (all_hold k.id s) left)
+    All-weaker (λ (k : KeptRequest). not (all_hold k.id s) ≡ true) (λ (k : KeptRequest). all_hold k.id s ≡ false) (λ k left. not-true (all_hold k.id s) left)
     (filter (λ k. not (all_hold k.id s)) kept) (All-filter_test (λ k. not (all_hold k.id s)) kept)
 
 answered_parked : (reply : Reply) (o : Outcome Leader) → ArePollsThere o.next.copies o.next.polls → ((why : Refusal) → reply ≡ replies.Refused why → AreKeptRightly o.next.copies o.next.kept)

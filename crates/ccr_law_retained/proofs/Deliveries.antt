@@ -1,5 +1,5 @@
 -- Messages that are taken or lost.
-use Rattle.std.specs.Prelude.{slice_get, slice_set, remove, not, nat_lt, ◌==◌, if◌then◌else◌, drop}
+use Rattle.std.specs.Prelude.{slice_get, slice_set, remove, not, nat_lt, ◌==◌, if◌then◌else◌}
 use Rattle.std.specs.Option.{option_and_then}
 use Rattle.std.specs.List.{AllByRecursion, list_any}
 use Rattle.std.specs.Str.{bytes_eq}
@@ -30,7 +30,7 @@ use Rattle.ccr_model.specs.World.{State, at_leader, at_follower, goes_to_leader,
 use Rattle.ccr_model.specs.Past.{Past, past_with, places_left, delivered_to_leader, sending_place, answer_after}
 use Rattle.ccr_law_leases.proofs.Keeping.{unheard}
 use Rattle.ccr_law_base.proofs.Cases.{on_if}
-use Rattle.ccr_law_base.proofs.Lists.{All-at, some_equal}
+use Rattle.ccr_law_base.proofs.Lists.{All-at, some_equal, drop-zero}
 use Rattle.ccr_law_retained.specs.Grounds.{HasGrounds}
 use Rattle.ccr_law_retained.specs.Retaining.{Bound, asked, bound_of, RenewalLow, FollowerOk, FollowerOkOf, AreRetaining, IsRetaining, GrantOk, OpensAbove, Within}
 use Rattle.ccr_law_retained.specs.Moving.{HearsAs}
@@ -142,10 +142,6 @@ follower-heard s m =
     ])
 
 -- ---- the message leaves those in flight
-
-drop-zero : {X : Type 0} (xs : List X) → drop zero xs ≡ xs
-drop-zero [] = refl
-drop-zero (x ∷ xs) = refl
 
 pub remove-append : {X : Type 0} (xs ys : List X) (n : ℕ) (x : X) → slice_get xs n ≡ Some x → remove (xs ++ ys) n ≡ remove xs n ++ ys
 remove-append [] ys n x at = absurd cc

@@ -20,11 +20,11 @@ use Rattle.ccr_law_base.proofs.Cases.{on_if}
 use Rattle.ccr_law_base.proofs.Lists.{All-weaker, All-append, All-find, All-map, All-remove}
 use Rattle.ccr_law_leases.specs.TrueLeases.{AreBehind, AreTrueLeasesOf}
 use Rattle.ccr_law_leases.specs.NoteOrder.{IsAnsweredAt, LossesComeAfter}
-use Rattle.ccr_law_leases.proofs.Finding.{and-true}
 use Rattle.ccr_law_leases.proofs.Ordering.{unbroken-since, is_answered_at}
 use Rattle.ccr_law_retained.specs.Grounds.{FloorsLow}
 use Rattle.ccr_law_retained.specs.Retaining.{Bound, free, asked, at_most, bound_of, low_of, RenewalLow, OpensAbove, Within, HasAnswer, AnswerOk, KeptSince, LostSince, is_grant, GrantOk, MissingOk, FollowerOk, IsEarly}
 use Rattle.ccr_law_retained.proofs.Lists.{low-reads, sent-weaker, sent-append, sent-map, sent-remove, any-more, none-before}
+use Rattle.std.proofs.lemmas.Bool.{and_parts}
 
 -- ---- what is said
 
@@ -220,7 +220,7 @@ grows answer notes new flight sent sent_at uuid lease work global s cut place se
       (sent-map (GrantOk uuid lease (new ++ notes)) place sent
       (All-weaker (λ (m : Frame). IsSaid (to_uuid uuid) lease work place (new ++ notes) cut (all_copies s) m.follower m.request m.content) (λ (m : Frame). GrantOk uuid lease (new ++ notes) m place)
       (λ m it is.
-      let both = and-true (bytes_eq m.follower uuid) (is_grant m.content) is in
+      let both = and_parts (bytes_eq m.follower uuid) (is_grant m.content) is in
       said-grant (to_uuid uuid) lease work place (new ++ notes) cut (all_copies s) m.follower m.request m.content it both.1 both.0) sent said));
   within = λ kept.
       let before : KeptSince answer lease notes = kept-before answer lease new notes kept in
@@ -229,7 +229,7 @@ grows answer notes new flight sent sent_at uuid lease work global s cut place se
       (All-weaker (MissingOk answer uuid lease notes work) (MissingOk answer uuid lease (new ++ notes) work) (λ m it is. later work m (it is)) flight ok.missing)
       (All-weaker (λ (m : Frame). IsSaid (to_uuid uuid) lease work place (new ++ notes) cut (all_copies s) m.follower m.request m.content) (MissingOk answer uuid lease (new ++ notes) work)
       (λ m it is.
-      let both = and-true (bytes_eq m.follower uuid) (is_missing m.content) is in
+      let both = and_parts (bytes_eq m.follower uuid) (is_missing m.content) is in
       misses-none answer lease notes new flight uuid work global s cut m.request setting ok.answered ok.within
       (said-misses (to_uuid uuid) lease work place (new ++ notes) cut (all_copies s) m.follower m.request m.content it both.1 both.0)) sent said);
 }

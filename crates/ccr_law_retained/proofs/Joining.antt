@@ -19,7 +19,6 @@ use Rattle.ccr_model.specs.Past.{Past, FollowerPast, past_with, sending_place, f
 use Rattle.ccr_model.specs.Invariants.{renewal_of, is_missing}
 use Rattle.ccr_law_base.proofs.Cases.{on_guards}
 use Rattle.ccr_law_base.proofs.Lists.{All-weaker, All-append, All-append_front, All-at, some_equal, push-old}
-use Rattle.ccr_law_leases.proofs.Finding.{and-true}
 use Rattle.ccr_law_leases.proofs.Notes.{other_bytes}
 use Rattle.ccr_law_retained.specs.Grounds.{HasGrounds}
 use Rattle.ccr_law_retained.specs.Retaining.{GrantOk, MissingOk, FollowerOk, FollowerOkOf, IsRetaining, is_grant, is_replicating, IsEarly}
@@ -27,6 +26,7 @@ use Rattle.ccr_law_retained.proofs.Lists.{sent-append, sent-each}
 use Rattle.ccr_law_retained.proofs.Growing.{grows}
 use Rattle.ccr_law_retained.proofs.Worlds.{early-asked}
 use Rattle.ccr_law_retained.proofs.Places.{setting-of, past-unmoved, refused-place}
+use Rattle.std.proofs.lemmas.Bool.{and_parts}
 
 -- ---- the end of a list
 
@@ -140,12 +140,12 @@ made-place p params copies name grounds named all =
           grants = sent-append (GrantOk (uuid_of f) name p.notes) p.state.flight made.sent p.sent_at _
               (sent-each (GrantOk (uuid_of f) name p.notes) p.state.flight p.sent_at all.paired
               (All-weaker (λ (m : Frame). bytes_eq m.follower (uuid_of f) ≡ false) (λ (m : Frame). (place : ℕ) → GrantOk (uuid_of f) name p.notes m place)
-              (λ m other place is. absurd (let own = (and-true (bytes_eq m.follower (uuid_of f)) (is_grant m.content) is).0 in cc)) p.state.flight grounds.messages.unmade))
-              ((λ is. absurd (let no = (and-true (bytes_eq (uuid_of f) (uuid_of f)) false is).1 in cc)), tt);
+              (λ m other place is. absurd (let own = (and_parts (bytes_eq m.follower (uuid_of f)) (is_grant m.content) is).0 in cc)) p.state.flight grounds.messages.unmade))
+              ((λ is. absurd (let no = (and_parts (bytes_eq (uuid_of f) (uuid_of f)) false is).1 in cc)), tt);
           within = λ kept. tt;
           missing = All-append (MissingOk answer (uuid_of f) name p.notes made.next.work) p.state.flight made.sent
               (All-weaker (λ (m : Frame). bytes_eq m.follower (uuid_of f) ≡ false) (MissingOk answer (uuid_of f) name p.notes made.next.work)
-              (λ m other is. absurd (let own = (and-true (bytes_eq m.follower (uuid_of f)) (is_missing m.content) is).0 in cc)) p.state.flight grounds.messages.unmade)
+              (λ m other is. absurd (let own = (and_parts (bytes_eq m.follower (uuid_of f)) (is_missing m.content) is).0 in cc)) p.state.flight grounds.messages.unmade)
               ((λ is. inl refl), tt);
         }
 

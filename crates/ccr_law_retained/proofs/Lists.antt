@@ -1,24 +1,10 @@
--- Lemmas on lists: of messages with the places where they were sent, of reads, and of requests.
+-- Lemmas on lists: of the least number that reads ask for, of messages with the places where they were sent, and of requests.
 use Rattle.std.specs.List.{AllByRecursion, list_any}
 use Rattle.std.specs.Prelude.{slice_get, slice_set, remove}
-use Rattle.std.proofs.Common.{◌≡◌, ℕ, zero, suc, ◌≤◌, ◌==◌, ◌||◌, Bool, true, false, Some, List, [], ◌∷◌, ◌++◌, map, take, drop, refl, ap, subst, arith}
+use Rattle.std.proofs.Common.{◌≡◌, ℕ, zero, suc, ◌≤◌, ◌||◌, Bool, true, false, Some, List, [], ◌∷◌, ◌++◌, map, take, drop, refl, ap, subst, arith}
 use Rattle.ccr_wire.specs.Message.{Frame}
-use Rattle.ccr_model.specs.Tasks.{Read, changed_read, without_read}
-use Rattle.ccr_law_base.proofs.Cases.{on_if}
+use Rattle.ccr_model.specs.Tasks.{Read}
 use Rattle.ccr_law_retained.specs.Retaining.{AllSent, low_of}
-
-pub all-changed : (P : Read → Type 0) (request : ℕ) (change : Read → Read) → ((r : Read) → P r → P (change r)) → (reads : List Read)
-    → AllByRecursion P reads → AllByRecursion P (changed_read request change reads)
-all-changed P request change keeps [] all = tt
-all-changed P request change keeps (r ∷ reads) all =
-    on_if (AllByRecursion P) (r.request == request) (change r ∷ reads) (r ∷ changed_read request change reads)
-    (λ is. (keeps r all.0, all.1)) (λ isnt. (all.0, all-changed P request change keeps reads all.1))
-
-pub all-without : (P : Read → Type 0) (request : ℕ) (reads : List Read) → AllByRecursion P reads → AllByRecursion P (without_read request reads)
-all-without P request [] all = tt
-all-without P request (r ∷ reads) all =
-    on_if (AllByRecursion P) (r.request == request) reads (r ∷ without_read request reads)
-    (λ is. all.1) (λ isnt. (all.0, all-without P request reads all.1))
 
 -- ---- the least number that is asked for
 

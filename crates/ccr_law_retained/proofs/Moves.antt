@@ -22,7 +22,7 @@ use Rattle.ccr_model.specs.Restores.{Restore, Stage, leasing, opening, fetching,
 use Rattle.ccr_model.specs.Followers.{Follower, Work, restoring, replicating, bootstrapped}
 use Rattle.ccr_model.specs.FollowerRows.{with_copies, with_task, does, task_of, ignored, restore_heard, hear_read, task_heard, work_hears, follower_receive_row, task_lost, bootstrap_lost, lose_row, tick_row, follower_clock_row, Sent, sent_write, lose_write_row, take_row, new_in, applied, is_other, apply_row, lacks, write_done, written_row, lease_request, needed_from, renew_row, pause_row, is_paused, task_anew, resume_row, restart_row, unfollow_row, follower_add_copy_row, follower_status_row}
 use Rattle.ccr_model.specs.FrameFacts.{reading_in, next_request_of, Reading}
-use Rattle.ccr_law_base.proofs.Cases.{on_if, on_guards}
+use Rattle.ccr_law_base.proofs.Cases.{on_if, on_guards, task_is}
 use Rattle.ccr_law_base.proofs.Lists.{All-weaker}
 use Rattle.ccr_law_retained.specs.Retaining.{Bound, free, asked, at_most, bound_of, bound_of_stage, low_of}
 use Rattle.ccr_law_retained.specs.Moving.{Follows, Answers, is_plain, IsRequest, GoesOn, MovesTo, HearsAs}
@@ -209,13 +209,6 @@ written-moves s number (Some w) is = by-lacking (lacks w.write.batch s.copies)
 
 -- ---- lease requests, pauses and restarts
 
-pub task-is : (s : Follower) (t : Task) → task_of s.work ≡ Some t → s.work ≡ replicating t
-task-is s t =
-    (elim s.work as (λ (work : Work). s.work ≡ work → task_of work ≡ Some t → s.work ≡ replicating t) [
-      | restoring r ↦ λ is there. absurd (cc)
-      | replicating own ↦ λ is there. let same : own ≡ t = cc in is ∙ ap replicating same
-    ]) refl
-
 -- the least number that is asked for
 least-low : (next : ℕ) (reads : List Read) → AllByRecursion (λ (r : Read). r.from ≤ next) reads → least_from next reads ≤ low_of next reads
 least-low next reads below = least-both next next reads (omega arith) below
@@ -239,28 +232,28 @@ renew-moves s None is below = refusing s _
 renew-moves s (Some t) is below =
     on_guards (MovesTo s) s ((not (is_active t.phase), NotActive) ∷ []) (lease_request s t (contents.LeaseRenew s.lease (needed_from s t)))
     (λ why. refusing s why)
-    (λ none. request-moves s t t (contents.LeaseRenew s.lease (needed_from s t)) (task-is s t is) (same-on t (record t { next_request = t.next_request + 1 }) refl refl (λ own. own) (omega arith))
-    (inr (refl, (let low : least_from t.next t.reads ≤ low_of t.next t.reads = least-low t.next t.reads (below t (task-is s t is)) in omega arith))))
+    (λ none. request-moves s t t (contents.LeaseRenew s.lease (needed_from s t)) (task_is s t is) (same-on t (record t { next_request = t.next_request + 1 }) refl refl (λ own. own) (omega arith))
+    (inr (refl, (let low : least_from t.next t.reads ≤ low_of t.next t.reads = least-low t.next t.reads (below t (task_is s t is)) in omega arith))))
 
 pub pause-moves : (s : Follower) (found : Option Task) → task_of s.work ≡ found → MovesTo s (pause_row s found)
 unfolding pause_row
 pause-moves s None is = refusing s _
 pause-moves s (Some t) is =
     on_if (λ (next : Follower). MovesTo s (answered replies.Done next)) (is_active t.phase) (with_task s (stopped phases.Paused t)) s
-    (λ active. task-moves s t (stopped phases.Paused t) s.lease_requests replies.Done [] (task-is s t is) (stopped-on phases.Paused t refl) tt)
+    (λ active. task-moves s t (stopped phases.Paused t) s.lease_requests replies.Done [] (task_is s t is) (stopped-on phases.Paused t refl) tt)
     (λ isnt. still s replies.Done)
 
 pub resume-moves : (s : Follower) (found : Option Task) → task_of s.work ≡ found → MovesTo s (resume_row s found)
 unfolding resume_row
 resume-moves s None is = refusing s _
 resume-moves s (Some t) is =
-    on_guards (MovesTo s) s ((not (is_paused t.phase), NotPaused) ∷ []) (task_anew s t) (λ why. refusing s why) (λ none. anew-moves s t (task-is s t is))
+    on_guards (MovesTo s) s ((not (is_paused t.phase), NotPaused) ∷ []) (task_anew s t) (λ why. refusing s why) (λ none. anew-moves s t (task_is s t is))
 
 pub restart-moves : (s : Follower) (found : Option Task) → task_of s.work ≡ found → MovesTo s (restart_row s found)
 unfolding restart_row
 restart-moves s None is = refusing s _
 restart-moves s (Some t) is =
-    on_guards (MovesTo s) s ((not (is_active t.phase), NotActive) ∷ []) (task_anew s t) (λ why. refusing s why) (λ none. anew-moves s t (task-is s t is))
+    on_guards (MovesTo s) s ((not (is_active t.phase), NotActive) ∷ []) (task_anew s t) (λ why. refusing s why) (λ none. anew-moves s t (task_is s t is))
 
 pub unfollow-moves : (s : Follower) (found : Option Task) → task_of s.work ≡ found → MovesTo s (unfollow_row s found)
 unfolding unfollow_row
@@ -268,7 +261,7 @@ unfollow-moves s None is = refusing s _
 unfollow-moves s (Some t) is =
     on_guards (MovesTo s) s ((is_active t.phase, NotPaused) ∷ []) (lease_request s (record t { phase = phases.Unfollowed }) (contents.LeaseRemove s.lease))
     (λ why. refusing s why)
-    (λ none. request-moves s t (record t { phase = phases.Unfollowed }) (contents.LeaseRemove s.lease) (task-is s t is)
+    (λ none. request-moves s t (record t { phase = phases.Unfollowed }) (contents.LeaseRemove s.lease) (task_is s t is)
     (same-on t (record t { phase = phases.Unfollowed; next_request = t.next_request + 1 }) refl refl (λ own. refl) (omega arith)) (inl refl))
 
 -- ---- copies

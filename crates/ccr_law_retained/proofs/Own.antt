@@ -3,7 +3,7 @@ use Rattle.std.specs.Prelude.{◌==◌, if◌then◌else◌, not, IfSome}
 use Rattle.std.specs.List.{AllByRecursion}
 use Rattle.std.specs.Str.{bytes_eq}
 use Rattle.std.proofs.Common.{◌≡◌, ◌⊎◌, inl, inr, ℕ, ◌≤◌, ◌<◌, ◌&&◌, Bool, true, false, List, ◌++◌, map, Option, Some, None, refl, ap, sym, ◌∙◌, subst, arith}
-use Rattle.std.proofs.lemmas.Bool.{eqb-true}
+use Rattle.std.proofs.lemmas.Bool.{eqb-true, and_parts}
 use Rattle.ccr_wire.specs.Message.{Frame}
 use Rattle.ccr_wire.specs.declared.content.Content.{Content}
 use Rattle.ccr_wire.specs.declared.content.Content.TheVariants as contents
@@ -17,7 +17,6 @@ use Rattle.ccr_model.specs.FrameFacts.{reading_in, next_request_of}
 use Rattle.ccr_model.specs.Invariants.{renewal_of, count_opened, is_missing}
 use Rattle.ccr_law_base.proofs.Lists.{All-weaker, All-append, All-both}
 use Rattle.ccr_law_leases.specs.NoteOrder.{IsAnsweredAt}
-use Rattle.ccr_law_leases.proofs.Finding.{and-true}
 use Rattle.ccr_law_retained.specs.Retaining.{Bound, free, asked, at_most, bound_of, bound_of_stage, RenewalLow, OpensAbove, Within, AnswerOk, KeptSince, LostSince, is_grant, GrantOk, MissingOk, FollowerOk, IsNoTaskLeasing}
 use Rattle.ccr_law_retained.specs.Moving.{IsFresh, Follows, Answers, is_plain, IsRenewal, IsRequest, GoesOn}
 use Rattle.ccr_law_retained.proofs.Lists.{sent-append, sent-map}
@@ -71,8 +70,8 @@ fresh-opens : (uuid : List ℕ) (drawn number : ℕ) (now : Asked) (flight : Lis
 fresh-opens uuid drawn number now flight fresh below =
     All-weaker (λ (m : Frame). bytes_eq m.follower uuid ≡ true → m.request < drawn) (OpensAbove uuid now number)
     (λ m less is.
-    let both = and-true (bytes_eq m.follower uuid) (answers m now) is in
-    let own = and-true (m.request == now.request) (is_sent now.progress) both.1 in
+    let both = and_parts (bytes_eq m.follower uuid) (answers m now) is in
+    let own = and_parts (m.request == now.request) (is_sent now.progress) both.1 in
     let same : m.request ≡ now.request = eqb-true m.request now.request own.0 in
     let up : drawn ≤ now.request = fresh own.1 in
     let low : m.request < drawn = less both.0 in
@@ -144,7 +143,7 @@ missing-goes-on : (answer now : Option ℕ) (uuid lease : List ℕ) (notes : Lis
     → AllByRecursion (MissingOk answer uuid lease notes old) flight → AllByRecursion (MissingOk now uuid lease notes new) flight
 missing-goes-on answer now uuid lease notes old new flight goes lost below all =
     All-weaker (λ (m : Frame). (bytes_eq m.follower uuid ≡ true → m.request < next_request_of old) × MissingOk answer uuid lease notes old m) (MissingOk now uuid lease notes new)
-    (λ m both is. by-either m (both.0 (and-true (bytes_eq m.follower uuid) (is_missing m.content) is).0) (both.1 is)) flight
+    (λ m both is. by-either m (both.0 (and_parts (bytes_eq m.follower uuid) (is_missing m.content) is).0) (both.1 is)) flight
     (All-both (λ (m : Frame). bytes_eq m.follower uuid ≡ true → m.request < next_request_of old) (MissingOk answer uuid lease notes old) flight below all)
   where
     by-either : (m : Frame) → m.request < next_request_of old → (reading_in old m.request ≡ None) ⊎ LostSince answer lease notes → (reading_in new m.request ≡ None) ⊎ LostSince now lease notes
@@ -155,13 +154,13 @@ sent-not-missing : (answer : Option ℕ) (uuid lease : List ℕ) (notes : List L
     → AllByRecursion (MissingOk answer uuid lease notes work) sent
 sent-not-missing answer uuid lease notes work bound sent all =
     All-weaker (IsRequest lease bound) (MissingOk answer uuid lease notes work)
-    (λ m it is. absurd (let none = (request-facts lease bound m.content it).2 in let some = (and-true (bytes_eq m.follower uuid) (is_missing m.content) is).1 in cc)) sent all
+    (λ m it is. absurd (let none = (request-facts lease bound m.content it).2 in let some = (and_parts (bytes_eq m.follower uuid) (is_missing m.content) is).1 in cc)) sent all
 
 sent-no-grant : (place : ℕ) (uuid lease : List ℕ) (notes : List LeaseNote) (bound : Bound) (sent : List Frame) → AllByRecursion (IsRequest lease bound) sent
     → AllByRecursion (λ (m : Frame). GrantOk uuid lease notes m place) sent
 sent-no-grant place uuid lease notes bound sent all =
     All-weaker (IsRequest lease bound) (λ (m : Frame). GrantOk uuid lease notes m place)
-    (λ m it is. absurd (let none = (request-facts lease bound m.content it).0 in let some = (and-true (bytes_eq m.follower uuid) (is_grant m.content) is).1 in cc)) sent all
+    (λ m it is. absurd (let none = (request-facts lease bound m.content it).0 in let some = (and_parts (bytes_eq m.follower uuid) (is_grant m.content) is).1 in cc)) sent all
 
 -- what a delivered message tells, with the place where it was sent
 pub record Heard (answer : Option ℕ) (notes : List LeaseNote) (flight : List Frame) (uuid lease : List ℕ) (bound : Bound) (m : Frame) (place : ℕ) : Type 0 where

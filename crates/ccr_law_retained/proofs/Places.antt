@@ -3,7 +3,7 @@ use Rattle.std.specs.Prelude.{slice_get, slice_set, max, not, IfSome, if◌then�
 use Rattle.std.specs.Option.{option_and_then}
 use Rattle.std.specs.List.{AllByRecursion}
 use Rattle.std.specs.Str.{bytes_eq}
-use Rattle.std.proofs.Common.{◌≡◌, ℕ, ◌≤◌, ◌<◌, ◌&&◌, Bool, true, false, List, [], ◌∷◌, ◌++◌, map, Option, Some, None, refl, ap, sym, ◌∙◌, subst, arith}
+use Rattle.std.proofs.Common.{◌≡◌, ℕ, ◌≤◌, ◌<◌, ◌&&◌, Bool, true, false, List, [], ◌++◌, map, Option, Some, None, refl, ap, sym, ◌∙◌, subst, arith}
 use Rattle.std.proofs.lemmas.Slice.Eq.{bytes_eq-Decides}
 use Rattle.ccr_op.specs.Operation.{Operation}
 use Rattle.ccr_wire.specs.Message.{Frame}
@@ -34,6 +34,7 @@ use Rattle.ccr_law_retained.proofs.Growing.{ReadsFrom, Setting, to_uuid}
 use Rattle.ccr_law_retained.proofs.Own.{moved-ok}
 use Rattle.ccr_law_retained.proofs.Saying.{Says, KeptOwn, AsksTruly, Place}
 use Rattle.ccr_law_retained.proofs.Worlds.{any_work, to_none, led, moved}
+use Rattle.std.proofs.lemmas.List.{append-nil}
 
 -- ---- what is known of the messages to one follower, or to none
 
@@ -106,10 +107,6 @@ notes-refused s next place delivered (events.Sync sides.Leader copy) why = refl
 notes-refused s next place delivered (events.FailCopy sides.Leader copy) why = refl
 notes-refused s next place delivered events.Expire why = refl
 notes-refused s next place delivered _ why = refl
-
-pub append-nil : {X : Type 0} (xs : List X) → xs ++ [] ≡ xs
-append-nil [] = refl
-append-nil (x ∷ xs) = ap (λ (ys : List _). x ∷ ys) (append-nil xs)
 
 answer-unmoved : (answer delivered : Option ℕ) (phase : Phase) → answer_after answer phase phase delivered ≡ answer
 answer-unmoved answer delivered phase =

@@ -1,7 +1,7 @@
 -- What holds of each read of a task stays so over the task's functions, which send no renewals.
 use Rattle.std.specs.Prelude.{nat_lt, ◌==◌, find}
 use Rattle.std.specs.List.{AllByRecursion, filter}
-use Rattle.std.proofs.Common.{◌≡◌, ℕ, ◌+◌, ◌-◌, ◌≤◌, ◌<◌, min, max, zero, suc, ◌&&◌, Bool, true, false, List, [], ◌∷◌, length, Option, Some, None, refl, sym, subst, arith}
+use Rattle.std.proofs.Common.{◌≡◌, ℕ, ◌+◌, ◌-◌, ◌≤◌, ◌<◌, min, zero, suc, ◌&&◌, Bool, true, false, List, [], ◌∷◌, length, Option, Some, None, refl, sym, subst, arith}
 use Rattle.std.proofs.lemmas.Bool.{ltb-true, and_parts, eqb-true}
 use Rattle.ccr_op.specs.Operation.{Operation}
 use Rattle.ccr_wire.specs.Message.{Frame}
@@ -13,10 +13,11 @@ use Rattle.ccr_model.specs.Requests.{Progress, Sending, quiet, followed_by, on_i
 use Rattle.ccr_model.specs.Tasks.{Task, Read, Write, is_active, may_read, has_budget, is_held, changed_read, without_read, sent_again, all_sent_again, with_batch, with_batches, fill_writes, fill_held, with_read, asks, next_read, with_reads, fill_reads, fill_peek, fill, filled_if_active, started, read_sent, end_of_ops, rest_from, after_reply, in_order_of_request, waits_after, without_write, due_reads_sent, due_writes_sent, ticked, read_lost, write_ended, stopped}
 use Rattle.ccr_model.specs.Past.{is_leasing}
 use Rattle.ccr_law_base.proofs.Cases.{on_if}
-use Rattle.ccr_law_base.proofs.Lists.{All-append, All-find, find_none}
+use Rattle.ccr_law_base.proofs.Lists.{All-append, All-find, find_none, All-changed_read, All-without_read, end-up}
 use Rattle.ccr_law_retained.specs.Retaining.{low_of}
 use Rattle.ccr_law_retained.specs.Moving.{is_plain}
-use Rattle.ccr_law_retained.proofs.Lists.{all-changed, all-without, low-next, low-reads, low-least}
+use Rattle.ccr_law_retained.proofs.Lists.{low-next, low-reads, low-least}
+use Rattle.ccr_law_base.proofs.Tests.{and_false}
 
 -- what holds of a read stays so: where it is begun, sent again, lost, or held back for what is left
 pub record Closed (P : Read → Type 0) (low drawn : ℕ) : Type 0 where
@@ -58,7 +59,7 @@ again-goes (r ∷ rs) P low drawn was t closed ok =
       next = record {
         number = let up : drawn ≤ t.next_request = ok.number in omega arith;
         next = ok.next;
-        reads = all-changed P r.request (λ own. record own { request = t.next_request; progress = on_its_way }) (λ own holds. closed.again own t.next_request ok.number holds) t.reads ok.reads;
+        reads = All-changed_read P r.request (λ own. record own { request = t.next_request; progress = on_its_way }) (λ own holds. closed.again own t.next_request ok.number holds) t.reads ok.reads;
         phase = ok.phase;
       };
       sent = (refl, tt);
@@ -129,10 +130,6 @@ started-goes P low drawn was params count epoch history follower request closed 
   writes = [];
 }) closed (record { number = number; next = from; reads = tt; phase = λ is. refl })
 
-end-up : (ops : List Operation) (n : ℕ) → n ≤ end_of_ops ops n
-end-up [] n = omega arith
-end-up (op ∷ ops) n = let rest : max n (op.seq + 1) ≤ end_of_ops ops (max n (op.seq + 1)) = end-up ops (max n (op.seq + 1)) in omega arith
-
 pub reply-goes : (P : Read → Type 0) (low drawn : ℕ) (was : Bool) (t : Task) (r : Read) (request global : ℕ) (ops : List Operation) → read_sent t request ≡ Some r → Closed P low drawn → Reads P low drawn was t
     → Goes P low drawn was (filled_if_active (after_reply t r global ops))
 reply-goes P low drawn was t r request global ops sent closed ok =
@@ -145,8 +142,8 @@ reply-goes P low drawn was t r request global ops sent closed ok =
       next = on_if (λ (k : ℕ). low ≤ k) (t.next == r.to) (end_of_ops ops t.next) t.next (λ is. omega arith) (λ isnt. ok.next);
       reads = on_if (λ (rs : List Read). AllByRecursion P rs) (nat_lt rest r.to)
           (changed_read r.request (λ own. record own { from = rest; asked = r.to - rest; progress = held_back }) t.reads) (without_read r.request t.reads)
-          (λ is. all-changed P r.request (λ own. record own { from = rest; asked = r.to - rest; progress = held_back }) (λ own at. closed.rest r own rest (r.to - rest) own_ok (omega arith) at) t.reads ok.reads)
-          (λ isnt. all-without P r.request t.reads ok.reads);
+          (λ is. All-changed_read P r.request (λ own. record own { from = rest; asked = r.to - rest; progress = held_back }) (λ own at. closed.rest r own rest (r.to - rest) own_ok (omega arith) at) t.reads ok.reads)
+          (λ isnt. All-without_read P r.request t.reads ok.reads);
       phase = ok.phase;
     })
 
@@ -162,7 +159,7 @@ pub lost-goes : (P : Read → Type 0) (low drawn : ℕ) (was : Bool) (now : ℕ)
 lost-goes P low drawn was now r t closed ok = record {
   number = ok.number;
   next = ok.next;
-  reads = all-changed P r.request (λ own. record own { progress = waits_after t now }) (λ own holds. closed.waits own _ holds) t.reads ok.reads;
+  reads = All-changed_read P r.request (λ own. record own { progress = waits_after t now }) (λ own holds. closed.waits own _ holds) t.reads ok.reads;
   phase = ok.phase;
 }
 
@@ -191,10 +188,6 @@ finds k r = (r.request == k) && is_sent r.progress
 abbrev pub IsUnsent : ℕ → Read → Type 0
 IsUnsent k r = finds k r ≡ false
 
-and-right : (a : Bool) → (a && false) ≡ false
-and-right true = refl
-and-right false = refl
-
 other-number : (n k : ℕ) (p : Progress) → suc k ≤ n → ((n == k) && is_sent p) ≡ false
 other-number n k p up =
     (elim (n == k) as (λ (b : Bool). (n == k) ≡ b → (b && is_sent p) ≡ false) [
@@ -206,8 +199,8 @@ pub unsent-closed : (k : ℕ) → Closed (IsUnsent k) 0 (suc k)
 unsent-closed k = record {
   begun = λ r number low. other-number r.request k r.progress number;
   again = λ r number up holds. other-number number k on_its_way up;
-  waits = λ r until holds. and-right (r.request == k);
-  rest = λ r own from asked low up holds. and-right (own.request == k);
+  waits = λ r until holds. and_false (r.request == k);
+  rest = λ r own from asked low up holds. and_false (own.request == k);
 }
 
 -- ---- a task after another

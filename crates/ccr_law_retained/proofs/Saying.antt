@@ -3,8 +3,8 @@ use Rattle.std.specs.Prelude.{◌==◌, filter, find, if◌then◌else◌, not, 
 use Rattle.std.specs.Option.{option_map}
 use Rattle.std.specs.List.{AllByRecursion, list_all}
 use Rattle.std.specs.Str.{bytes_eq}
-use Rattle.std.proofs.Common.{◌≡◌, ℕ, ◌+◌, ◌≤◌, ◌<◌, ◌&&◌, ◌||◌, Bool, true, false, List, [], ◌∷◌, ◌++◌, map, Option, Some, None, refl, sym, subst, arith, append_assoc}
-use Rattle.std.proofs.lemmas.Bool.{ltb-true}
+use Rattle.std.proofs.Common.{◌≡◌, ℕ, ◌+◌, ◌≤◌, ◌<◌, ◌&&◌, Bool, true, false, List, [], ◌∷◌, ◌++◌, map, Option, Some, None, refl, sym, subst, arith, append_assoc}
+use Rattle.std.proofs.lemmas.Bool.{ltb-true, or_left, and_from}
 use Rattle.std.proofs.lemmas.Bool.Decides.{Decides-eqb}
 use Rattle.ccr_lease.specs.declared.retention.Lease.{Lease}
 use Rattle.ccr_lease.specs.Leases.{lease_of, renewed, without}
@@ -24,7 +24,7 @@ use Rattle.ccr_model.specs.LeaseHistory.{LeaseNote, number_in, notes_of, notes_o
 use Rattle.ccr_model.specs.LeaseHistory as history
 use Rattle.ccr_model.specs.Followers.{Work}
 use Rattle.ccr_law_base.proofs.Cases.{on_if}
-use Rattle.ccr_law_base.proofs.Lists.{All-weaker, All-every, All-append, All-map, All-map_back, All-find}
+use Rattle.ccr_law_base.proofs.Lists.{All-weaker, All-every, All-append, All-map, All-map_back, All-find, All-from_both}
 use Rattle.ccr_law_leases.specs.NoteOrder.{IsAnsweredAt}
 use Rattle.ccr_law_leases.proofs.Notes.{same_bytes}
 use Rattle.ccr_law_leases.proofs.Messages.{adding}
@@ -80,17 +80,8 @@ kept_note next place k = record { id = k.id; place = place; deed = history.answe
 same-number : (n : ℕ) → (n == n) ≡ true
 same-number n = (Decides-eqb n n).1 refl
 
-and-both : (a b : Bool) → a ≡ true → b ≡ true → (a && b) ≡ true
-and-both true true one two = refl
-and-both true false one two = two
-and-both false b one two = one
-
-or-first : (a b : Bool) → a ≡ true → (a || b) ≡ true
-or-first true b is = refl
-or-first false b is = absurd cc
-
 pub newly-answered : (id : List ℕ) (place number : ℕ) (notes : List LeaseNote) → IsAnsweredAt id place (record { id = id; place = place; deed = history.answered number } ∷ notes)
-newly-answered id place number notes = or-first _ _ (and-both (bytes_eq id id) (place == place) (same_bytes id) (same-number place))
+newly-answered id place number notes = or_left _ _ (and_from (bytes_eq id id) (place == place) (same_bytes id) (same-number place))
 
 kept-noted : (next : Copies) (place : ℕ) (more : List LeaseNote) (ks : List KeptRequest)
     → AllByRecursion (λ (k : KeptRequest). all_hold k.id next ≡ true → IsAnsweredAt k.id place (map {A = KeptRequest} {B = LeaseNote} (kept_note next place) (filter (λ k. all_hold k.id next) ks) ++ more)) ks
@@ -110,14 +101,10 @@ kept-noted next place more (k ∷ ks) =
 abbrev pub KeptNoted : (List ℕ → Type 0) → List ℕ → ℕ → List LeaseNote → Copies → List KeptRequest → Type 0
 KeptNoted to lease place notes next kept = AllByRecursion (λ (k : KeptRequest). all_hold k.id next ≡ true → to k.follower → IsAnsweredAt lease place notes) kept
 
-both-all : {X : Type 0} (P Q R : X → Type 0) → ((x : X) → P x → Q x → R x) → (xs : List X) → AllByRecursion P xs → AllByRecursion Q xs → AllByRecursion R xs
-both-all P Q R step [] ps qs = tt
-both-all P Q R step (x ∷ xs) ps qs = (step x ps.0 qs.0, both-all P Q R step xs ps.1 qs.1)
-
 pub own-noted : (to : List ℕ → Type 0) (lease : List ℕ) (place : ℕ) (next : Copies) (more : List LeaseNote) (ks : List KeptRequest) → KeptOwn to lease ks
     → KeptNoted to lease place (map {A = KeptRequest} {B = LeaseNote} (kept_note next place) (filter (λ k. all_hold k.id next) ks) ++ more) next ks
 own-noted to lease place next more ks own =
-    both-all (λ (k : KeptRequest). to k.follower → k.id ≡ lease)
+    All-from_both (λ (k : KeptRequest). to k.follower → k.id ≡ lease)
     (λ (k : KeptRequest). all_hold k.id next ≡ true → IsAnsweredAt k.id place (map {A = KeptRequest} {B = LeaseNote} (kept_note next place) (filter (λ k. all_hold k.id next) ks) ++ more))
     (λ (k : KeptRequest). all_hold k.id next ≡ true → to k.follower → IsAnsweredAt lease place (map {A = KeptRequest} {B = LeaseNote} (kept_note next place) (filter (λ k. all_hold k.id next) ks) ++ more))
     (λ k mine noted hold it. subst (λ (id : List ℕ). IsAnsweredAt id place (map {A = KeptRequest} {B = LeaseNote} (kept_note next place) (filter (λ k. all_hold k.id next) ks) ++ more)) (mine it) (noted hold))

@@ -12,12 +12,12 @@ use Rattle.ccr_model.specs.Past.{Past}
 use Rattle.ccr_model.specs.FrameFacts.{reading_in, reading_of}
 use Rattle.ccr_model.specs.Invariants.{IsKept, renewal_of, renewals_of, RetainsForBootstrap, IsNotNeeded, RetainsForWork, is_missing, IsLost, IsMissingTruly}
 use Rattle.ccr_law_base.proofs.Lists.{All-weaker}
-use Rattle.ccr_law_leases.proofs.Finding.{and-true}
 use Rattle.ccr_law_retained.specs.Grounds.{HasGrounds, SaysRetained}
 use Rattle.ccr_law_retained.specs.Retaining.{is_replicating, bound_of, bound_of_stage, low_of, Within, KeptSince, LostSince, MissingOk, IsEarly, IsRetaining}
 use Rattle.ccr_law_retained.proofs.Lists.{low-next, low-reads}
 use Rattle.ccr_law_retained.proofs.Worlds.{early-own}
 use Rattle.ccr_law_retained.proofs.Places.{reading-is}
+use Rattle.std.proofs.lemmas.Bool.{and_parts}
 
 -- a list with one more number, where there is one
 abbrev cons_option : Option ℕ → List ℕ → List ℕ
@@ -66,7 +66,7 @@ missing-says : (p : Past) (f : ℕ) (s : Follower) → HasGrounds p → slice_ge
     → AllByRecursion (MissingOk (p.followers f).answer (uuid_of f) s.lease p.notes s.work) p.state.flight → AllByRecursion (IsMissingTruly p f s) p.state.flight
 missing-says p f s grounds there all =
     All-weaker (MissingOk (p.followers f).answer (uuid_of f) s.lease p.notes s.work) (IsMissingTruly p f s)
-    (λ m it is. by-either m (and-true (bytes_eq m.follower (uuid_of f)) (is_missing m.content) is).0 (it is)) p.state.flight all
+    (λ m it is. by-either m (and_parts (bytes_eq m.follower (uuid_of f)) (is_missing m.content) is).0 (it is)) p.state.flight all
   where
     by-either : (m : Frame) → bytes_eq m.follower (uuid_of f) ≡ true → (reading_in s.work m.request ≡ None) ⊎ LostSince (p.followers f).answer s.lease p.notes
         → (reading_of p.state m.follower m.request ≡ None) ⊎ IsLost p f s.lease

@@ -19,8 +19,9 @@ use Rattle.ccr_law_base.proofs.Lists.{set-same}
 use Rattle.ccr_law_retained.specs.Grounds.{Rises, HasGrounds}
 use Rattle.ccr_law_retained.specs.Retaining.{FollowerOk, AreRetaining, IsRetaining}
 use Rattle.ccr_law_retained.proofs.Worlds.{left}
-use Rattle.ccr_law_retained.proofs.Places.{past-unmoved, refused-place, append-nil}
+use Rattle.ccr_law_retained.proofs.Places.{past-unmoved, refused-place}
 use Rattle.ccr_law_retained.proofs.Deliveries.{kept_or_left, AfterDelivery, to-leader, to-follower, is-there, IsThere, flipped, not-delivered}
+use Rattle.std.proofs.lemmas.List.{append-nil}
 
 -- the claims with the same answers, where more is committed
 pub carried : (followers : List Follower) (answers now : ℕ → Option ℕ) (notes : List LeaseNote) (flight : List Frame) (sent_at : List ℕ) (cut later : ℕ) → cut ≤ later → ((f : ℕ) → now f ≡ answers f)

@@ -2,7 +2,7 @@
 use Rattle.std.specs.Prelude.{slice_get, slice_set, remove, IfSome}
 use Rattle.std.specs.List.{AllByRecursion}
 use Rattle.std.specs.Str.{bytes_eq}
-use Rattle.std.proofs.Common.{◌≡◌, ◌⊎◌, inl, inr, ℕ, suc, ◌≤◌, ◌==◌, ◌&&◌, Bool, true, false, List, [], ◌∷◌, ◌++◌, map, Option, Some, None, refl, ap, sym, ◌∙◌, subst, arith}
+use Rattle.std.proofs.Common.{◌≡◌, ◌⊎◌, inl, inr, ℕ, ◌≤◌, ◌==◌, ◌&&◌, Bool, true, false, List, [], ◌++◌, map, Option, Some, None, refl, ap, sym, ◌∙◌, subst, arith}
 use Rattle.std.proofs.lemmas.Bool.{eqb-true}
 use Rattle.std.proofs.lemmas.Bool.Decides.{Decides-eqb}
 use Rattle.ccr_wire.specs.Message.{Frame}
@@ -14,25 +14,19 @@ use Rattle.ccr_model.specs.Restores.{leasing, Asked}
 use Rattle.ccr_model.specs.Followers.{Follower, Work, restoring, replicating, uuid_of}
 use Rattle.ccr_model.specs.LeaseHistory.{LeaseNote, retained}
 use Rattle.ccr_model.specs.Invariants.{renewal_of}
-use Rattle.ccr_law_base.proofs.Lists.{All-weaker, All-every, All-append, All-remove, All-at, some_equal, set-same}
+use Rattle.ccr_law_base.proofs.Lists.{All-weaker, All-every, All-append, All-remove, All-at, some_equal, set-same, All-places}
 use Rattle.ccr_law_retained.specs.Retaining.{Bound, asked, bound_of, RenewalLow, FollowerOk, FollowerOkOf, is_replicating, NoneReplicates, IsEarly, LeasesApart, AreRetaining}
 use Rattle.ccr_law_retained.specs.Moving.{is_plain, IsRenewal, IsRequest}
 use Rattle.ccr_law_retained.proofs.Lists.{sent-append, sent-map, sent-remove, set-other}
 use Rattle.ccr_law_retained.proofs.Growing.{IsSaid, retained-low, said-renewal, Setting, to_uuid, grows, fewer}
 use Rattle.ccr_law_retained.proofs.Saying.{Says}
 
--- ---- lists by places
-
-pub all-by-place : {X : Type 0} (P : X → Type 0) (xs : List X) → ((i : ℕ) (x : X) → slice_get xs i ≡ Some x → P x) → AllByRecursion P xs
-all-by-place P [] each = tt
-all-by-place P (x ∷ xs) each = (each 0 x refl, all-by-place P xs (λ i y at. each (suc i) y at))
-
 -- ---- leases before their followers replicate
 
 -- the lease of a follower that doesn't replicate is not another's
 pub early-own : (followers : List Follower) (f : ℕ) (s : Follower) → LeasesApart followers → slice_get followers f ≡ Some s → is_replicating s.work ≡ false → NoneReplicates s.lease followers
 early-own followers f s apart there isnt =
-    all-by-place (λ (t : Follower). (bytes_eq t.lease s.lease && is_replicating t.work) ≡ false) followers
+    All-places (λ (t : Follower). (bytes_eq t.lease s.lease && is_replicating t.work) ≡ false) followers
     (λ g t at. (elim (bytes_eq t.lease s.lease) as (λ (b : Bool). bytes_eq t.lease s.lease ≡ b → (b && is_replicating t.work) ≡ false) [
       | true ↦ λ is.
           let same : g ≡ f = apart g f t s at there is in
@@ -200,7 +194,7 @@ moved followers answers now notes flight sent sent_at cut later place c f old ne
 
     nobody-before : (id : List ℕ) → NoneReplicates id (slice_set followers f new) → NoneReplicates id followers
     nobody-before id nobody =
-        all-by-place (λ (t : Follower). (bytes_eq t.lease id && is_replicating t.work) ≡ false) followers
+        All-places (λ (t : Follower). (bytes_eq t.lease id && is_replicating t.work) ≡ false) followers
         (λ g t at. (elim (same-place g f) as (λ _. (bytes_eq t.lease id && is_replicating t.work) ≡ false) [
           | inl same ↦
               let one : t ≡ old = some_equal t old (sym at ∙ (ap (slice_get followers) same ∙ there)) in

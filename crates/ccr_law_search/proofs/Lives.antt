@@ -1,10 +1,9 @@
 -- The greatest operation about an id, and the live documents of a list of operations.
 use Rattle.std.specs.List.{AllByRecursion, cons_option}
 use Rattle.std.specs.Option.{option_map_or}
-use Rattle.std.proofs.Common.{◌≡◌, inl, inr, ℕ, ◌≤◌, ◌==◌, ◌+◌, nat_lt, cond, Bool, true, false, if◌then◌else◌, Option, Some, None, List, [], ◌∷◌, filter, filter_map, count_by, bytes_eq, refl, sym, ap, subst, arith}
+use Rattle.std.proofs.Common.{◌≡◌, inl, inr, ℕ, ◌≤◌, ◌==◌, ◌+◌, nat_lt, cond, Bool, true, false, if◌then◌else◌, Option, Some, None, List, [], ◌∷◌, filter, filter_map, count_by, refl, sym, subst, arith}
 use Rattle.std.proofs.lemmas.Bool.Decides.{nat_tests}
 use Rattle.std.proofs.lemmas.List.Sums.{sum_by-cons}
-use Rattle.std.proofs.lemmas.Slice.Eq.{bytes_eq-Decides}
 use Rattle.ccr_op.specs.Operation.{Operation, id_of}
 use Rattle.ccr_op.specs.declared.operation.Kind.{Kind}
 use Rattle.ccr_op.specs.declared.operation.Kind.TheVariants.{Index, Delete, NoOp}
@@ -13,19 +12,11 @@ use Rattle.ccr_model.specs.Operations.{is_about, later, greatest_about}
 use Rattle.ccr_model.specs.Answers.{IsIn, IsLive}
 use Rattle.ccr_model.specs.Searches.{live_hit, live_hits}
 use Rattle.ccr_law_base.proofs.Cases.{on_if}
-use Rattle.ccr_law_base.proofs.Lists.{some_equal, All-filter}
+use Rattle.ccr_law_base.proofs.Lists.{some_equal, All-filter, about_id, id_about}
 use Rattle.ccr_law_search.proofs.Members.{Gives, in_filter_map, filter_map_in}
 use Rattle.ccr_law_search.proofs.Sorts.{IsOther, AreApart}
 
 -- ---- the greatest about an id
-
-about_to : (id : List ℕ) (o : Option (List ℕ)) → option_map_or (λ own. bytes_eq own id) o false ≡ true → o ≡ Some id
-about_to id None is = cc
-about_to id (Some own) is = ap (λ z. Some z) ((bytes_eq-Decides own id).0 is)
-
-about_from : (id : List ℕ) (o : Option (List ℕ)) → o ≡ Some id → option_map_or (λ own. bytes_eq own id) o false ≡ true
-about_from id None e = cc
-about_from id (Some own) e = (bytes_eq-Decides own id).1 (some_equal own id e)
 
 pub record IsGreatest (ops : List Operation) (id : List ℕ) (last : Operation) : Type 0 where
   pub is_in : IsIn ops last
@@ -54,15 +45,15 @@ rest_greatest op ops id last low g = record { is_in = inr g.is_in; about = g.abo
 
 greatest_step : (op : Operation) (ops : List Operation) (id : List ℕ) (about : Bool) → is_about id op ≡ about → (o : Option Operation)
     → GreatestIs ops id o → GreatestIs (op ∷ ops) id (later (if about then Some op else None) o)
-greatest_step op ops id true is None none = first_greatest op ops id (about_to id (id_of op.kind) is) (λ other at about. absurd (none other at about))
+greatest_step op ops id true is None none = first_greatest op ops id (about_id id (id_of op.kind) is) (λ other at about. absurd (none other at about))
 greatest_step op ops id true is (Some x) g =
     on_if (GreatestIs (op ∷ ops) id) (nat_lt op.seq x.seq) (Some x) (Some op)
     (λ lt. rest_greatest op ops id x (λ _. grind (arith, nat_tests)) g)
-    (λ ge. first_greatest op ops id (about_to id (id_of op.kind) is) (λ other at about. let le : other.seq ≤ x.seq = g.greatest other at about in grind (arith, nat_tests)))
+    (λ ge. first_greatest op ops id (about_id id (id_of op.kind) is) (λ other at about. let le : other.seq ≤ x.seq = g.greatest other at about in grind (arith, nat_tests)))
 greatest_step op ops id false isnt None none = over
   where
     differ : id_of op.kind ≡ Some id → ⊥
-    differ e = let is : is_about id op ≡ true = about_from id (id_of op.kind) e in cc
+    differ e = let is : is_about id op ≡ true = id_about id (id_of op.kind) e in cc
 
     over : (other : Operation) → IsIn (op ∷ ops) other → ¬ (id_of other.kind ≡ Some id)
     over other (inl same) is = differ (subst (λ (o : Operation). id_of o.kind ≡ Some id) (sym same) is)
@@ -70,7 +61,7 @@ greatest_step op ops id false isnt None none = over
 greatest_step op ops id false isnt (Some x) g = rest_greatest op ops id x (λ e. absurd (differ e)) g
   where
     differ : id_of op.kind ≡ Some id → ⊥
-    differ e = let is : is_about id op ≡ true = about_from id (id_of op.kind) e in cc
+    differ e = let is : is_about id op ≡ true = id_about id (id_of op.kind) e in cc
 
 pub greatest_is : (ops : List Operation) (id : List ℕ) → GreatestIs ops id (greatest_about ops id)
 greatest_is [] id = λ other at is. at

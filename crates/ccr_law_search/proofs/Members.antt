@@ -1,14 +1,9 @@
 -- Members of lists: of filtered ones, of fronts, and places.
-use Rattle.std.specs.List.{AllByRecursion, cons_option}
+use Rattle.std.specs.List.{cons_option}
 use Rattle.std.proofs.Common.{◌≡◌, inl, inr, ℕ, zero, suc, ◌<◌, Bool, true, false, Option, Some, None, List, [], ◌∷◌, take, filter, filter_map, slice_get, refl, sym, ap, subst, arith}
 use Rattle.ccr_model.specs.Answers.{IsIn}
 use Rattle.ccr_law_base.proofs.Cases.{on_if}
 use Rattle.ccr_law_base.proofs.Lists.{some_equal}
-
-pub All-member : {X : Type 0} (P : X → Type 0) (xs : List X) (x : X) → AllByRecursion P xs → IsIn xs x → P x
-All-member P [] x all at = absurd at
-All-member P (y ∷ xs) x all (inl same) = subst P same all.0
-All-member P (y ∷ xs) x all (inr rest) = All-member P xs x all.1 rest
 
 -- ---- filters
 

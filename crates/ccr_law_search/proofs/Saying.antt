@@ -13,10 +13,11 @@ use Rattle.ccr_model.specs.Answers.{IsIn, IsLive, IsHit, SameView}
 use Rattle.ccr_model.specs.CopyFacts.{IsHeldBelow, IsGivenBelow}
 use Rattle.ccr_law_core.proofs.Sets.{has-end}
 use Rattle.ccr_law_search.specs.Searchable.{IsSearchable, AreOfLine, AnswersOverGiven, AnswersOverLine, LeaderAnswers, FollowerAnswers}
-use Rattle.ccr_law_search.proofs.Members.{All-member, in_filter, filter_in}
+use Rattle.ccr_law_search.proofs.Members.{in_filter, filter_in}
 use Rattle.ccr_law_search.proofs.Lives.{live_in, in_live, live_apart, apart-filter}
 use Rattle.ccr_law_search.proofs.Sorts.{in_sorted, sorted_in, ordered_hits}
 use Rattle.ccr_law_search.proofs.Views.{live-same, same_answers, given_in_front, front_given, number_given, count_of, gap_of}
+use Rattle.ccr_law_base.proofs.Lists.{All-in}
 
 -- ---- what is held shows what was given
 
@@ -29,7 +30,7 @@ given_below ops restored c s op among =
     let low : op.seq < end_of c.seen = has-end c.seen op.seq (s.processed op.seq ∙ number_given ops op among) in omega arith
 
 held_given : (ops : ℕ → Option Operation) (restored : ℕ) (c : Copy) → IsSearchable ops restored c → (op : Operation) → IsIn (held c.store) op → IsAmong ops op
-held_given ops restored c s op at = All-member (IsAmong ops) (held c.store) op s.store.ours at
+held_given ops restored c s op at = All-in (IsAmong ops) (held c.store) op s.store.ours at
 
 shown : (ops : ℕ → Option Operation) (restored : ℕ) (c : Copy) → IsSearchable ops restored c → SameView (IsHeldBelow (bound_of c) c) (IsGivenBelow (bound_of c) ops)
 shown ops restored c s = s.store.view (bound_of c) (omega arith)

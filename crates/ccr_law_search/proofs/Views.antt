@@ -1,5 +1,5 @@
 -- Sets of operations that have the same members, or show the same documents, have the same answers.
-use Rattle.std.proofs.Common.{◌≡◌, ◌↔◌, ℕ, ◌+◌, ◌<◌, ◌≤◌, true, false, not, Option, Some, None, is_some, List, [], ◌∷◌, take, slice_get, IsTrue, refl, sym, ◌∙◌, subst, arith}
+use Rattle.std.proofs.Common.{◌≡◌, ◌↔◌, ℕ, ◌+◌, ◌<◌, ◌≤◌, true, false, not, Option, Some, is_some, List, [], ◌∷◌, take, slice_get, IsTrue, refl, sym, ◌∙◌, subst, arith}
 use Rattle.std.proofs.lemmas.Bool.Decides.{nat_tests}
 use Rattle.ccr_op.specs.Operation.{Operation}
 use Rattle.ccr_tracker.specs.Numbers.{Numbers, has, IsCanonical}
@@ -14,6 +14,7 @@ use Rattle.ccr_law_core.proofs.Sets.{count_absent, has-below}
 use Rattle.ccr_law_base.proofs.Lists.{some_equal}
 use Rattle.ccr_law_search.specs.Searchable.{AreNumbered, AreOfLine}
 use Rattle.ccr_law_search.proofs.Members.{IsIn-take, place_in_front}
+use Rattle.ccr_law_core.proofs.Changes.{some-of}
 
 -- ---- the same members
 
@@ -64,13 +65,9 @@ front_given line ops n ours exactly op at =
 
 -- ---- counts and gaps
 
-some_given : (o : Option Operation) → is_some o ≡ true → (op : Operation) × (o ≡ Some op)
-some_given None is = cc
-some_given (Some op) is = (op, refl)
-
 pub given_number : (ops : ℕ → Option Operation) → AreNumbered ops → (n : ℕ) → is_some (ops n) ≡ true → HasNumber (IsAmong ops) n
 given_number ops numbered n is =
-    let found : (op : Operation) × (ops n ≡ Some op) = some_given (ops n) is in
+    let found : (op : Operation) × (ops n ≡ Some op) = some-of (ops n) is in
     let number : found.0.seq ≡ n = numbered n found.0 found.1 in
     (found.0, subst (λ (k : ℕ). ops k ≡ Some found.0) (sym number) found.1, number)
 

@@ -25,8 +25,10 @@ use Rattle.ccr_law_base.proofs.Lists.{All-find, some_equal}
 use Rattle.ccr_law_settle.specs.Measure.{total, passing, replica_lacks, copies_lack, work_lacks, follower_lacks, over_followers, rank_of, IsLower}
 use Rattle.ccr_law_settle.specs.Within.{AreWritesWithin, IsWithin}
 use Rattle.ccr_law_settle.proofs.Totals.{passing_fewer, le_itself, over_set_same, over_set_less}
-use Rattle.ccr_law_settle.proofs.CopyRows.{and_left, and_right, not_true, not_of_true, not_of_false, guarded_passes, marked_lacks}
-use Rattle.ccr_law_settle.proofs.Joins.{append_none}
+use Rattle.ccr_law_settle.proofs.CopyRows.{not_of_true, not_of_false, guarded_passes, marked_lacks}
+use Rattle.ccr_law_base.proofs.Tests.{and_first, and_second}
+use Rattle.std.proofs.lemmas.Bool.{not-true}
+use Rattle.std.proofs.lemmas.List.{append-nil}
 
 abbrev numbers_lacking : ℕ → Numbers → ℕ
 numbers_lacking count seen = passing (λ n. not (has seen n)) (range_with_len 0 count)
@@ -34,15 +36,11 @@ numbers_lacking count seen = passing (λ n. not (has seen n)) (range_with_len 0 
 abbrev after_batch : Copy → List Operation → Copy
 after_batch c batch = fold {A = Operation} {B = Copy} (λ c op. taking c op.seq (Some op)) c batch
 
-or_left : (a b : Bool) → a ≡ true → (a || b) ≡ true
-or_left true b is = refl
-or_left false b is = cc
-
 -- a mark leaves no more lacking
 marked_no_more : (count : ℕ) (seen : Numbers) (seq : ℕ) → numbers_lacking count (marked seen seq) ≤ numbers_lacking count seen
 marked_no_more count seen seq =
     passing_fewer (λ n. not (has seen n)) (λ n. not (has (marked seen seq) n)) 0 count
-    (λ n lt is. not_of_false (has seen n) (out (has seen n) (seq == n) (sym (has-marked seen seq n) ∙ not_true (has (marked seen seq) n) is)))
+    (λ n lt is. not_of_false (has seen n) (out (has seen n) (seq == n) (sym (has-marked seen seq n) ∙ not-true (has (marked seen seq) n) is)))
   where
     out : (a b : Bool) → (a || b) ≡ false → a ≡ false
     out true b is = cc
@@ -110,17 +108,17 @@ unfolding apply_row
 apply_lowers s f epoch write batch own None at low is = cc
 apply_lowers s f epoch write batch own (Some w) at low is =
     let count : ℕ = s.leader.copies.primary.seen.count in
-    let both : ((epoch == own.epoch) && same_operations w.write.batch batch) ≡ true = and_left ((epoch == own.epoch) && same_operations w.write.batch batch) (not (has_all batch own.copies.primary)) is in
-    let same_epoch : (epoch == own.epoch) ≡ true = and_left (epoch == own.epoch) (same_operations w.write.batch batch) both in
-    let same : same_operations w.write.batch batch ≡ true = and_right (epoch == own.epoch) (same_operations w.write.batch batch) both in
-    let lacks : has_all batch own.copies.primary ≡ false = not_true (has_all batch own.copies.primary) (and_right ((epoch == own.epoch) && same_operations w.write.batch batch) (not (has_all batch own.copies.primary)) is) in
+    let both : ((epoch == own.epoch) && same_operations w.write.batch batch) ≡ true = and_first ((epoch == own.epoch) && same_operations w.write.batch batch) (not (has_all batch own.copies.primary)) is in
+    let same_epoch : (epoch == own.epoch) ≡ true = and_first (epoch == own.epoch) (same_operations w.write.batch batch) both in
+    let same : same_operations w.write.batch batch ≡ true = and_second (epoch == own.epoch) (same_operations w.write.batch batch) both in
+    let lacks : has_all batch own.copies.primary ≡ false = not-true (has_all batch own.copies.primary) (and_second ((epoch == own.epoch) && same_operations w.write.batch batch) (not (has_all batch own.copies.primary)) is) in
     let equal : w.write.batch ≡ batch = same_operations-equal w.write.batch batch same in
     let new : Follower = with_copies own (applied batch own.copies) in
     let less : copies_lack count (applied batch own.copies) < copies_lack count own.copies
     = applied_less count batch own.copies (subst (λ (ops : List Operation). AllByRecursion (λ (op : Operation). op.seq < count) ops) equal (low w refl)) lacks in
     subst (λ (o : Outcome Follower). IsLower (at_follower s f o).next s)
     (sym (guarded_passes own _ (answered (replies.Applied (new_in own.copies.primary.seen batch)) new) (not_late epoch own.epoch same_epoch, (not_of_true (same_operations w.write.batch batch) same, tt))))
-    (subst (λ (flight : List Frame). IsLower (record s { followers = slice_set s.followers f new; flight = flight }) s) (sym (append_none s.flight))
+    (subst (λ (flight : List Frame). IsLower (record s { followers = slice_set s.followers f new; flight = flight }) s) (sym (append-nil s.flight))
     (inr (
       over_set_same (λ f own. rank_of s.flight s.leader.sessions f own.work) f own new s.followers at (le_itself (rank_of s.flight s.leader.sessions f own.work)),
       inl (

@@ -19,7 +19,7 @@ use Rattle.ccr_model.specs.Settling.{time_of, least_of, waits_in, waits_in_stage
 use Rattle.ccr_law_base.proofs.Cases.{on_if}
 use Rattle.ccr_law_settle.specs.Measure.{total, over_followers, rank_of, follower_lacks, old_peeks, weight_of_progress, weight_of_stage, weight_of_work, IsLower}
 use Rattle.ccr_law_settle.proofs.Totals.{le_itself, over_set_same, over_set_less}
-use Rattle.ccr_law_settle.proofs.Joins.{append_none}
+use Rattle.std.proofs.lemmas.List.{append-nil}
 
 -- it waits until this time
 abbrev is_at : ℕ → Progress → Bool
@@ -165,7 +165,7 @@ clock_lower : (s : State) (f now : ℕ) (own : Follower) → slice_get s.followe
     → IsLower (at_follower s f (follower_clock_row own now)).next s
 unfolding follower_clock_row
 clock_lower s f now own at least none =
-    subst (λ (flight : List Frame). IsLower (record s { followers = slice_set s.followers f new; flight = flight }) s) (sym (append_none s.flight))
+    subst (λ (flight : List Frame). IsLower (record s { followers = slice_set s.followers f new; flight = flight }) s) (sym (append-nil s.flight))
     (inr (
       over_set_same (λ f own. rank_of s.flight s.leader.sessions f own.work) f own new s.followers at (le_itself (rank_of s.flight s.leader.sessions f own.work)),
       inr (

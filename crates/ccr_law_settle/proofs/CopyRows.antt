@@ -17,23 +17,12 @@ use Rattle.ccr_model.specs.Settling.{may_replicate, may_ack, may_resync}
 use Rattle.ccr_law_base.proofs.Cases.{AreFalse}
 use Rattle.ccr_law_core.proofs.Sets.{has-marked, has-marked_all, has-kept}
 use Rattle.ccr_law_base.proofs.Lists.{any-range}
-use Rattle.ccr_law_base.proofs.Tests.{itself}
+use Rattle.ccr_law_base.proofs.Tests.{itself, and_first, and_second}
 use Rattle.ccr_law_settle.specs.Measure.{total, passing, copy_lacks, replica_lacks, copies_lack}
 use Rattle.ccr_law_settle.proofs.Totals.{passing_fewer, passing_less, total_replaced}
+use Rattle.std.proofs.lemmas.Bool.{not-true}
 
 -- ---- tests
-
-pub and_left : (a b : Bool) → (a && b) ≡ true → a ≡ true
-and_left true b is = refl
-and_left false b is = cc
-
-pub and_right : (a b : Bool) → (a && b) ≡ true → b ≡ true
-and_right true b is = is
-and_right false b is = cc
-
-pub not_true : (a : Bool) → not a ≡ true → a ≡ false
-not_true true is = cc
-not_true false is = refl
 
 pub not_of_true : (a : Bool) → a ≡ true → not a ≡ false
 not_of_true a is = rw is refl
@@ -54,7 +43,7 @@ pub marked_lacks : (count : ℕ) (seen : Numbers) (seq : ℕ) → seq < count �
     → passing (λ n. not (has (marked seen seq) n)) (range_with_len 0 count) < passing (λ n. not (has seen n)) (range_with_len 0 count)
 marked_lacks count seen seq below out =
     passing_less (λ n. not (has seen n)) (λ n. not (has (marked seen seq) n)) 0 count seq
-    (λ n lt is. not_of_false (has seen n) (left (has seen n) (seq == n) (sym (has-marked seen seq n) ∙ not_true (has (marked seen seq) n) is)))
+    (λ n lt is. not_of_false (has seen n) (left (has seen n) (seq == n) (sym (has-marked seen seq n) ∙ not-true (has (marked seen seq) n) is)))
     (omega arith) (omega arith) (not_of_false (has seen seq) out)
     (not_of_true (has (marked seen seq) seq) (has-marked seen seq seq ∙ rw out (itself seq)))
   where
@@ -90,10 +79,10 @@ pub replicate_lowers : (count : ℕ) (s : Copies) (copy seq : ℕ) → (has s.pr
 unfolding replicate_row
 replicate_lowers count s copy seq low None at is = cc
 replicate_lowers count s copy seq low (Some r) at is =
-    let both : (r.resynced && has s.primary.seen seq) ≡ true = and_left (r.resynced && has s.primary.seen seq) (not (has r.copy.seen seq)) is in
-    let resynced : r.resynced ≡ true = and_left r.resynced (has s.primary.seen seq) both in
-    let there : has s.primary.seen seq ≡ true = and_right r.resynced (has s.primary.seen seq) both in
-    let out : has r.copy.seen seq ≡ false = not_true (has r.copy.seen seq) (and_right (r.resynced && has s.primary.seen seq) (not (has r.copy.seen seq)) is) in
+    let both : (r.resynced && has s.primary.seen seq) ≡ true = and_first (r.resynced && has s.primary.seen seq) (not (has r.copy.seen seq)) is in
+    let resynced : r.resynced ≡ true = and_first r.resynced (has s.primary.seen seq) both in
+    let there : has s.primary.seen seq ≡ true = and_second r.resynced (has s.primary.seen seq) both in
+    let out : has r.copy.seen seq ≡ false = not-true (has r.copy.seen seq) (and_second (r.resynced && has s.primary.seen seq) (not (has r.copy.seen seq)) is) in
     let new : Replica = record r { copy = knowing s.primary.global (taking r.copy seq (op_at seq (held s.primary.store))) } in
     let fewer : passing (λ n. not (has (marked r.copy.seen seq) n)) (range_with_len 0 count) < passing (λ n. not (has r.copy.seen n)) (range_with_len 0 count)
     = marked_lacks count r.copy.seen seq (low there) out in
@@ -116,8 +105,8 @@ pub ack_lowers : (count : ℕ) (s : Copies) (copy : ℕ) → (o : Option Replica
 unfolding ack_row
 ack_lowers count s copy None at within is = cc
 ack_lowers count s copy (Some r) at within is =
-    let resynced : r.resynced ≡ true = and_left r.resynced (nat_lt r.known r.copy.seen.count || not r.acked) is in
-    let late : (nat_lt r.known r.copy.seen.count || not r.acked) ≡ true = and_right r.resynced (nat_lt r.known r.copy.seen.count || not r.acked) is in
+    let resynced : r.resynced ≡ true = and_first r.resynced (nat_lt r.known r.copy.seen.count || not r.acked) is in
+    let late : (nat_lt r.known r.copy.seen.count || not r.acked) ≡ true = and_second r.resynced (nat_lt r.known r.copy.seen.count || not r.acked) is in
     let bounds : (r.known ≤ r.copy.seen.count) × (r.copy.seen.count ≤ count) = within r refl resynced in
     let new : Replica = record r { known = r.copy.seen.count; acked = true } in
     record {
@@ -139,13 +128,13 @@ pub resync_lowers : (count : ℕ) (s : Copies) (copy : ℕ) → s.primary.seen.c
 unfolding resync_row
 resync_lowers count s copy whole None at is = cc
 resync_lowers count s copy whole (Some r) at is =
-    let stale : r.resynced ≡ false = not_true r.resynced is in
+    let stale : r.resynced ≡ false = not-true r.resynced is in
     let mark : ℕ = resync_mark s r in
     let new : Replica = record r { copy = resynced_copy s mark r.copy; resynced = true } in
     let fewer : passing (λ n. not (has (resynced_copy s mark r.copy).seen n)) (range_with_len 0 count) ≤ passing (λ n. not (has r.copy.seen n)) (range_with_len 0 count)
     = passing_fewer (λ n. not (has r.copy.seen n)) (λ n. not (has (resynced_copy s mark r.copy).seen n)) 0 count
     (λ n lt lacks. not_of_false (has r.copy.seen n)
-    (left n mark (omega arith) (sym (has-marked_all (kept_below r.copy.seen mark) (range_with_len mark (s.primary.seen.count - mark)) n) ∙ not_true (has (resynced_copy s mark r.copy).seen n) lacks))) in
+    (left n mark (omega arith) (sym (has-marked_all (kept_below r.copy.seen mark) (range_with_len mark (s.primary.seen.count - mark)) n) ∙ not-true (has (resynced_copy s mark r.copy).seen n) lacks))) in
     record {
       reply = replies.Resynced (held_from mark r.copy.store) (s.primary.seen.count - mark);
       replicas = replaced copy new s.replicas;

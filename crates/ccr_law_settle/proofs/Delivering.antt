@@ -31,6 +31,7 @@ use Rattle.ccr_law_settle.proofs.Syncing.{left_of, answers_of, plain_answers, bu
 use Rattle.ccr_law_settle.proofs.Reading.{read_some}
 use Rattle.ccr_law_settle.proofs.Waking.{waits, Tells, found_number}
 use Rattle.ccr_law_settle.proofs.Taken.{total_remove, any_remove, ranks_left}
+use Rattle.std.proofs.lemmas.Bool.{or_left}
 
 -- ---- a message to the leader becomes a poll or an answer
 
@@ -121,10 +122,6 @@ last_one true b is = refl
 last_one false true is = refl
 last_one false false is = cc
 
-first_one : (a b : Bool) → a ≡ true → (a || b) ≡ true
-first_one true b is = refl
-first_one false b is = cc
-
 alone_first : (a b : Bool) → a ≡ true → ((a || false) || b) ≡ true
 alone_first true b is = refl
 alone_first false b is = cc
@@ -142,7 +139,7 @@ parked_lower s at m p found heavy follower number = becomes_lower s at m (s.lead
   there = λ uuid request is. rw (list_any-append (waits uuid request) s.leader.polls (p ∷ []))
       (last_one (list_any (waits uuid request) s.leader.polls) (waits uuid request p) (same uuid request is));
   still = λ uuid request is. rw (list_any-append (waits uuid request) s.leader.polls (p ∷ []))
-      (first_one (list_any (waits uuid request) s.leader.polls) (list_any (waits uuid request) (p ∷ [])) is);
+      (or_left (list_any (waits uuid request) s.leader.polls) (list_any (waits uuid request) (p ∷ [])) is);
 })
   where
     same : (uuid : List ℕ) (request : ℕ) → carries uuid request m ≡ true → waits uuid request p ≡ true

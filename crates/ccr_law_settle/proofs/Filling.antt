@@ -9,13 +9,13 @@ use Rattle.ccr_model.specs.Requests.{on_its_way, Sending, quiet, followed_by}
 use Rattle.ccr_model.specs.Tasks.{Task, Read, Write, is_active, may_read, has_budget, with_read, changed_read, sent_again, all_sent_again, with_batch, with_batches, fill_writes, is_held, fill_held, asks, next_read, with_reads, fill_reads, fill_peek, fill, filled_if_active}
 use Rattle.ccr_model.specs.Leaders.{Session}
 use Rattle.ccr_law_base.proofs.Cases.{on_if}
-use Rattle.ccr_law_base.proofs.Lists.{All-append}
+use Rattle.ccr_law_base.proofs.Lists.{All-append, some_length}
 use Rattle.ccr_law_settle.specs.Measure.{total, task_lacks}
 use Rattle.ccr_law_settle.proofs.Totals.{le_itself, total_append}
-use Rattle.ccr_law_settle.proofs.CopyRows.{and_right}
 use Rattle.ccr_law_settle.proofs.Flights.{IsPlain}
 use Rattle.ccr_law_settle.proofs.Reading.{cut_some}
 use Rattle.ccr_law_settle.proofs.LostRequests.{total_changed_read}
+use Rattle.ccr_law_base.proofs.Tests.{and_second}
 
 -- the task lacks no more, knows as much, and sends plain messages
 pub record Fills (count : ℕ) (sessions : List Session) (t : Task) (done : Sending Task) : Type 0 where
@@ -54,10 +54,6 @@ cut_short max_ops max_bytes ops =
     first : (ops : List Operation) → length (take 1 ops) ≤ length ops
     first [] = omega arith
     first (op ∷ ops) = omega arith
-
-some_length : (ops : List Operation) → is_empty ops ≡ false → 1 ≤ length ops
-some_length [] some = cc
-some_length (op ∷ ops) some = omega arith
 
 drop_length : (n : ℕ) (ops : List Operation) → length (drop n ops) ≡ length ops - n
 drop_length zero [] = refl
@@ -120,7 +116,7 @@ reads_fill zero count sessions t within = fills_quietly count sessions t
 reads_fill (suc n) count sessions t within =
     on_if (Fills count sessions t) (has_budget t && nat_lt t.next t.known) (followed_by (next_read t) (with_reads n)) (quiet t)
     (λ is.
-    let lt : t.next < t.known = below (and_right (has_budget t) (nat_lt t.next t.known) is) in
+    let lt : t.next < t.known = below (and_second (has_budget t) (nat_lt t.next t.known) is) in
     let to : ℕ = min t.known (t.next + t.params.max_read_request_operation_count) in
     let one : Fills count sessions t (next_read t) = read_fills count sessions t to (asks t (to - t.next)) (omega arith) (inl (omega arith)) in
     fills_then count sessions t (next_read t) (with_reads n) one (reads_fill n count sessions (next_read t).next within))

@@ -11,14 +11,11 @@ use Rattle.ccr_model.specs.Leaders.{Session}
 use Rattle.ccr_model.specs.Followers.{Follower, Work, restoring, replicating, uuid_of}
 use Rattle.ccr_law_settle.specs.Measure.{total, passing, over_followers, opens_closed, is_gone, is_opened_in_vain, is_told_gone, is_in_vain, rank_of_stage, rank_of, is_idle_content, weight_of_progress, weight_of_stage, weight_of_work}
 use Rattle.ccr_law_settle.proofs.Totals.{le_itself, over_fewer, total_append}
+use Rattle.ccr_law_base.proofs.Tests.{and_false}
 
 or_none : (a : Bool) → (a || false) ≡ a
 or_none true = refl
 or_none false = refl
-
-and_none : (a : Bool) → (a && false) ≡ false
-and_none true = refl
-and_none false = refl
 
 -- ---- ranks
 
@@ -29,11 +26,11 @@ pub record IsPlain (sessions : List Session) (m : Frame) : Type 0 where
 
 pub none_opens : (sessions : List Session) (f : ℕ) (a : Asked) (more : List Frame) → AllByRecursion (IsPlain sessions) more → is_opened_in_vain more sessions f a ≡ false
 none_opens sessions f a [] plain = refl
-none_opens sessions f a (m ∷ more) plain = rw plain.0.opens (rw (and_none (bytes_eq m.follower (uuid_of f) && answers m a)) (none_opens sessions f a more plain.1))
+none_opens sessions f a (m ∷ more) plain = rw plain.0.opens (rw (and_false (bytes_eq m.follower (uuid_of f) && answers m a)) (none_opens sessions f a more plain.1))
 
 pub none_gone : (sessions : List Session) (f : ℕ) (fetch : Fetch) (more : List Frame) → AllByRecursion (IsPlain sessions) more → is_told_gone more f fetch ≡ false
 none_gone sessions f fetch [] plain = refl
-none_gone sessions f fetch (m ∷ more) plain = rw plain.0.gone (rw (and_none (bytes_eq m.follower (uuid_of f))) (none_gone sessions f fetch more plain.1))
+none_gone sessions f fetch (m ∷ more) plain = rw plain.0.gone (rw (and_false (bytes_eq m.follower (uuid_of f))) (none_gone sessions f fetch more plain.1))
 
 opened_more : (flight more : List Frame) (sessions : List Session) (f : ℕ) (a : Asked) → AllByRecursion (IsPlain sessions) more
     → is_opened_in_vain (flight ++ more) sessions f a ≡ is_opened_in_vain flight sessions f a

@@ -14,12 +14,12 @@ use Rattle.ccr_model.specs.Step.{step}
 use Rattle.ccr_law_base.proofs.Cases.{on_if}
 use Rattle.ccr_law_settle.specs.Measure.{over_followers, is_idle_content, rank_of, follower_lacks, old_peeks, IsLower}
 use Rattle.ccr_law_settle.proofs.Totals.{le_itself, over_set_same, over_set_less}
-use Rattle.ccr_law_settle.proofs.Joins.{append_none}
 use Rattle.ccr_law_settle.proofs.Flights.{IsPlain, ranks_more}
 use Rattle.ccr_law_settle.proofs.Taken.{total_remove, ranks_left}
 use Rattle.ccr_law_settle.proofs.Delivering.{primary_found}
-use Rattle.ccr_law_settle.proofs.Refusals.{fewer_left}
 use Rattle.ccr_law_settle.proofs.Stale.{left}
+use Rattle.std.proofs.lemmas.List.{append-nil}
+use Rattle.ccr_law_base.proofs.Lists.{length-filter-le}
 
 -- ---- a lower rank
 
@@ -67,7 +67,7 @@ one_ends : (n : ℕ) (requests : List ℕ) → list_any (λ k. k == n) requests 
 one_ends n [] any = cc
 one_ends n (k ∷ requests) any =
     (elim (k == n) as (λ b. (b || list_any (λ k. k == n) requests) ≡ true → length (if not b then k ∷ filter (λ k. not (k == n)) requests else filter (λ k. not (k == n)) requests) < length (k ∷ requests)) [
-      | true ↦ λ is. (let few : length (filter (λ k. not (k == n)) requests) ≤ length requests = fewer_left (λ k. not (k == n)) requests in omega arith)
+      | true ↦ λ is. (let few : length (filter (λ k. not (k == n)) requests) ≤ length requests = length-filter-le (λ k. not (k == n)) requests in omega arith)
       | false ↦ λ later. (let rest : length (filter (λ k. not (k == n)) requests) < length requests = one_ends n requests later in omega arith)
     ]) any
 
@@ -75,7 +75,7 @@ ends_lower : (s : State) (at : ℕ) (m : Frame) (f : ℕ) (own : Follower) (requ
     → length requests < length own.lease_requests
     → IsLower (record s { followers = slice_set s.followers f (record own { lease_requests = requests }); flight = remove s.flight at ++ [] }) s
 ends_lower s at m f own requests found there few =
-    subst (λ (flight : List Frame). IsLower (record s { followers = slice_set s.followers f new; flight = flight }) s) (sym (append_none (remove s.flight at)))
+    subst (λ (flight : List Frame). IsLower (record s { followers = slice_set s.followers f new; flight = flight }) s) (sym (append-nil (remove s.flight at)))
     (inr (
       (let left : over_followers (λ f own. rank_of (remove s.flight at) s.leader.sessions f own.work) 0 (slice_set s.followers f new)
           ≤ over_followers (λ f own. rank_of s.flight s.leader.sessions f own.work) 0 (slice_set s.followers f new)

@@ -1,6 +1,6 @@
 -- How a part that becomes smaller makes the measure of a world smaller.
 use Rattle.std.specs.Prelude.{slice_get, slice_set}
-use Rattle.std.proofs.Common.{◌≡◌, inl, inr, ℕ, ◌<◌, Some, List, [], ◌∷◌, ◌++◌, refl, sym, subst, arith}
+use Rattle.std.proofs.Common.{◌≡◌, inl, inr, ℕ, ◌<◌, Some, List, refl, sym, subst, arith}
 use Rattle.ccr_wire.specs.Message.{Frame}
 use Rattle.ccr_model.specs.Outcomes.{Outcome, within}
 use Rattle.ccr_model.specs.Copies.{Copies}
@@ -11,17 +11,14 @@ use Rattle.ccr_model.specs.World.{State, at_leader, at_follower}
 use Rattle.ccr_law_settle.specs.Measure.{copies_lack, work_lacks, follower_lacks, over_followers, rank_of, ranks_of, lacking_of, IsLower}
 use Rattle.ccr_law_settle.proofs.Totals.{le_itself, over_set_same, over_set_less}
 use Rattle.ccr_law_settle.proofs.CopyRows.{Lowers}
-
-pub append_none : {X : Type 0} (xs : List X) → xs ++ [] ≡ xs
-append_none [] = refl
-append_none (x ∷ xs) = rw (append_none xs) refl
+use Rattle.std.proofs.lemmas.List.{append-nil}
 
 -- the leader's copies lack less
 pub leader_lower : (s : State) (o : Outcome Copies) → Lowers s.leader.copies.primary.seen.count s.leader.copies o
     → IsLower (at_leader s (within (with_leader_copies s.leader) o)).next s
 leader_lower s o row =
     subst (λ (x : Outcome Copies). IsLower (at_leader s (within (with_leader_copies s.leader) x)).next s) (sym row.is)
-    (subst (λ (flight : List Frame). IsLower (record s { leader = with_leader_copies s.leader new; flight = flight }) s) (sym (append_none s.flight))
+    (subst (λ (flight : List Frame). IsLower (record s { leader = with_leader_copies s.leader new; flight = flight }) s) (sym (append-nil s.flight))
     (inr (le_itself (ranks_of s), inl lower)))
   where
     new : Copies
@@ -39,7 +36,7 @@ pub follower_lower : (s : State) (f : ℕ) (own : Follower) (o : Outcome Copies)
     → IsLower (at_follower s f (within (with_follower_copies own) o)).next s
 follower_lower s f own o at row =
     subst (λ (x : Outcome Copies). IsLower (at_follower s f (within (with_follower_copies own) x)).next s) (sym row.is)
-    (subst (λ (flight : List Frame). IsLower (record s { followers = slice_set s.followers f (with_follower_copies own new); flight = flight }) s) (sym (append_none s.flight))
+    (subst (λ (flight : List Frame). IsLower (record s { followers = slice_set s.followers f (with_follower_copies own new); flight = flight }) s) (sym (append-nil s.flight))
     (inr (
       over_set_same (λ f own. rank_of s.flight s.leader.sessions f own.work) f own (with_follower_copies own new) s.followers at (le_itself (rank_of s.flight s.leader.sessions f own.work)),
       inl lower,

@@ -18,11 +18,11 @@ use Rattle.ccr_model.specs.Settling.{may_act, request_at, may_be_answered}
 use Rattle.ccr_law_settle.specs.Measure.{total, passing, over_followers, opens_closed, is_gone, is_opened_in_vain, is_told_gone, is_in_vain, rank_of_stage, rank_of, copies_lack, stage_lacks, work_lacks, follower_lacks, old_peeks, weight_of_progress, weight_of_stage, weight_of_work, IsLower}
 use Rattle.ccr_law_settle.specs.Within.{AreStageApart, AreRequestsApart}
 use Rattle.ccr_law_settle.proofs.Totals.{le_itself, over_set_same, over_set_less}
-use Rattle.ccr_law_settle.proofs.CopyRows.{not_true}
 use Rattle.ccr_law_settle.proofs.Taken.{choice_lower}
 use Rattle.ccr_law_base.proofs.Tests.{or-more}
-use Rattle.ccr_law_settle.proofs.Joins.{append_none}
 use Rattle.ccr_law_settle.proofs.LostRequests.{lost_lighter, read_weight, with_progress, sent_read_loses, total_changed_read, with_later, sent_ask_loses, length_changed_ask, lost_fewer_sent}
+use Rattle.std.proofs.lemmas.Bool.{not-true}
+use Rattle.std.proofs.lemmas.List.{append-nil}
 
 -- ---- one follower whose work is lighter
 
@@ -139,7 +139,7 @@ lost_lower : (s : State) (f : ℕ) (own : Follower) (at request : ℕ) (work : W
     ])).next s
 lost_lower s f own at request (restoring r) there is apart found nothing =
     subst (λ (o : Option ℕ). IsLower (at_follower s f (bootstrap_lost own r at o)).next s) (sym found)
-    (subst (λ (flight : List Frame). IsLower (record s { followers = slice_set s.followers f (record own { work = after }); flight = flight }) s) (sym (append_none s.flight))
+    (subst (λ (flight : List Frame). IsLower (record s { followers = slice_set s.followers f (record own { work = after }); flight = flight }) s) (sym (append-nil s.flight))
     (lighter_lower s f own after there (record {
       rank = subst (λ (w : Work). rank_of s.flight s.leader.sessions f after ≤ rank_of s.flight s.leader.sessions f w) (sym is) parts.1;
       lacks = subst (λ (w : Work). work_lacks s.leader.copies.primary.seen.count after ≤ work_lacks s.leader.copies.primary.seen.count w) (sym is) parts.2;
@@ -178,7 +178,7 @@ lost_lower s f own at request (replicating t) there is apart found nothing = by 
         let lacks : work_lacks s.leader.copies.primary.seen.count after ≤ work_lacks s.leader.copies.primary.seen.count (replicating t) = omega arith in
         let weight : weight_of_work may own.now after < weight_of_work may own.now (replicating t) = omega arith in
         let old : old_peeks after ≤ old_peeks (replicating t) = omega arith in
-        subst (λ (flight : List Frame). IsLower (record s { followers = slice_set s.followers f (record own { work = after }); flight = flight }) s) (sym (append_none s.flight))
+        subst (λ (flight : List Frame). IsLower (record s { followers = slice_set s.followers f (record own { work = after }); flight = flight }) s) (sym (append-nil s.flight))
         (lighter_lower s f own after there (record {
           rank = subst (λ (w : Work). 0 ≤ rank_of s.flight s.leader.sessions f w) (sym is) (omega arith);
           lacks = subst (λ (w : Work). work_lacks s.leader.copies.primary.seen.count after ≤ work_lacks s.leader.copies.primary.seen.count w) (sym is) lacks;
@@ -202,7 +202,7 @@ lose_at s f at picks apart may = by (slice_get s.followers f) refl may
     by_request : (own : Follower) → slice_get s.followers f ≡ Some own → (o : Option ℕ) → request_at own.work at ≡ o
         → option_map_or (λ (request : ℕ). not (may_be_answered s (uuid_of f) request)) o false ≡ true → IsLower (at_follower s f (lose_row own at)).next s
     by_request own there None found is = cc
-    by_request own there (Some request) found is = lost_lower s f own at request own.work there refl (apart own there) found (not_true (may_be_answered s (uuid_of f) request) is)
+    by_request own there (Some request) found is = lost_lower s f own at request own.work there refl (apart own there) found (not-true (may_be_answered s (uuid_of f) request) is)
 
     by : (o : Option Follower) → slice_get s.followers f ≡ o
         → option_map_or (λ (own : Follower). option_map_or (λ (request : ℕ). not (may_be_answered s (uuid_of f) request)) (request_at own.work at) false) o false ≡ true

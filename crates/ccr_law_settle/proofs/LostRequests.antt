@@ -1,7 +1,7 @@
 -- A request that is lost weighs less.
 use Rattle.std.specs.List.{AllByRecursion, fold, list_any}
 use Rattle.std.specs.Prelude.{slice_get, filter}
-use Rattle.std.proofs.Common.{◌≡◌, ℕ, zero, suc, ◌+◌, ◌<◌, ◌≤◌, ◌==◌, ◌&&◌, ◌||◌, Bool, true, false, nat_lt, nat_le, Some, List, [], ◌∷◌, map, length, refl, subst, arith}
+use Rattle.std.proofs.Common.{◌≡◌, ℕ, zero, suc, ◌+◌, ◌<◌, ◌≤◌, ◌==◌, ◌&&◌, ◌||◌, Bool, true, false, nat_le, Some, List, [], ◌∷◌, map, length, refl, subst, arith}
 use Rattle.ccr_model.specs.Requests.{Progress, on_its_way, waiting, held_back, is_sent}
 use Rattle.ccr_model.specs.Tasks.{Task, Read, changed_read, by_request, sent_reads}
 use Rattle.ccr_model.specs.Restores.{ChunkAsked, changed_ask}

@@ -1,7 +1,7 @@
 -- Settling by the delivery of a message that the leader isn't ready lowers the measure.
 use Rattle.std.specs.List.{list_any}
 use Rattle.std.specs.Prelude.{slice_get, slice_set, remove, filter}
-use Rattle.std.proofs.Common.{◌≡◌, ℕ, ◌+◌, ◌≤◌, ◌<◌, ◌==◌, not, Bool, true, false, if◌then◌else◌, inl, inr, Option, Some, None, List, [], ◌∷◌, ◌++◌, length, refl, sym, subst, arith}
+use Rattle.std.proofs.Common.{◌≡◌, ℕ, ◌+◌, ◌≤◌, ◌<◌, ◌==◌, not, true, false, if◌then◌else◌, inl, inr, Option, Some, None, List, [], ◌++◌, length, refl, sym, subst, arith}
 use Rattle.ccr_wire.specs.Message.{Frame}
 use Rattle.ccr_wire.specs.declared.content.Content.TheVariants as contents
 use Rattle.ccr_journal.specs.declared.events.Event.TheVariants as events
@@ -18,10 +18,11 @@ use Rattle.ccr_model.specs.Step.{step}
 use Rattle.ccr_law_base.proofs.Cases.{on_if}
 use Rattle.ccr_law_settle.specs.Measure.{passing, over_followers, is_idle_content, is_opened_in_vain, rank_of, copies_lack, follower_lacks, old_peeks, lacking_of, IsLower}
 use Rattle.ccr_law_settle.proofs.Totals.{le_itself, over_set_same}
-use Rattle.ccr_law_settle.proofs.Joins.{append_none}
 use Rattle.ccr_law_settle.proofs.Losing.{no_rank_for_waiting, two_at_most}
 use Rattle.ccr_law_settle.proofs.Taken.{total_remove, ranks_left}
 use Rattle.ccr_law_settle.proofs.Delivering.{primary_found}
+use Rattle.std.proofs.lemmas.List.{append-nil}
+use Rattle.ccr_law_base.proofs.Lists.{length-filter-le}
 
 -- one message fewer that brings nothing
 pub idle_less : (flight : List Frame) (at : ℕ) (m : Frame) → slice_get flight at ≡ Some m → is_idle_content m.content ≡ true
@@ -60,7 +61,7 @@ takes_lower : (s : State) (at : ℕ) (m : Frame) (f : ℕ) (own : Follower) (o :
     → IsLower (at_follower (record s { flight = remove s.flight at }) f o).next s
 takes_lower s at m f own o found idle there takes =
     subst (λ (sent : List Frame). IsLower (record s { followers = slice_set s.followers f o.next; flight = remove s.flight at ++ sent }) s) (sym takes.quiet)
-    (subst (λ (flight : List Frame). IsLower (record s { followers = slice_set s.followers f o.next; flight = flight }) s) (sym (append_none (remove s.flight at)))
+    (subst (λ (flight : List Frame). IsLower (record s { followers = slice_set s.followers f o.next; flight = flight }) s) (sym (append-nil (remove s.flight at)))
     (inr (
       (let left : over_followers (λ f own. rank_of (remove s.flight at) s.leader.sessions f own.work) 0 (slice_set s.followers f o.next)
           ≤ over_followers (λ f own. rank_of s.flight s.leader.sessions f own.work) 0 (slice_set s.followers f o.next)
@@ -82,12 +83,6 @@ takes_lower s at m f own o found idle there takes =
     both a b c d lt le = omega arith
 
 -- ---- the message
-
-pub fewer_left : {X : Type 0} (test : X → Bool) (xs : List X) → length (filter test xs) ≤ length xs
-fewer_left test [] = omega arith
-fewer_left test (x ∷ xs) =
-    let rest : length (filter test xs) ≤ length xs = fewer_left test xs in
-    on_if (λ (ys : List _). length ys ≤ length (x ∷ xs)) (test x) (x ∷ filter test xs) (filter test xs) (λ is. omega arith) (λ isnt. omega arith)
 
 ignored_takes : (sessions : List Session) (flight : List Frame) (count f : ℕ) (own : Follower) → Takes sessions flight count f own (ignored own)
 ignored_takes sessions flight count f own = record {
@@ -156,7 +151,7 @@ row_takes sessions flight count f own follower request copy =
       quiet = refl;
       rank = le_itself (rank_of flight sessions f own.work);
       lacks = le_itself (follower_lacks count f own);
-      idle = (let less : length (filter (λ n. not (n == request)) own.lease_requests) ≤ length own.lease_requests = fewer_left (λ n. not (n == request)) own.lease_requests in omega arith);
+      idle = (let less : length (filter (λ n. not (n == request)) own.lease_requests) ≤ length own.lease_requests = length-filter-le (λ n. not (n == request)) own.lease_requests in omega arith);
     })
     (λ isnt. work_takes sessions flight count f own own.work follower request copy)
 

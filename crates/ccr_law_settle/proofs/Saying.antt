@@ -2,7 +2,7 @@
 use Rattle.std.specs.List.{AllByRecursion}
 use Rattle.std.specs.Prelude.{slice_get}
 use Rattle.std.specs.Option.{option_map}
-use Rattle.std.proofs.Common.{is_none, ◌≡◌, ℕ, zero, suc, ◌<◌, ◌≤◌, ◌==◌, ◌&&◌, not, Bool, true, false, nat_lt, if◌then◌else◌, Option, Some, None, List, [], ◌∷◌, length, is_some, refl, sym, ◌∙◌, ap, subst, arith}
+use Rattle.std.proofs.Common.{is_none, ◌≡◌, ℕ, ◌<◌, ◌≤◌, ◌==◌, ◌&&◌, not, Bool, true, false, nat_lt, if◌then◌else◌, Option, Some, None, List, [], ◌∷◌, length, is_some, refl, sym, ◌∙◌, ap, subst, arith}
 use Rattle.std.proofs.lemmas.Bool.Decides.{nat_tests}
 use Rattle.ccr_op.specs.Operation.{Operation}
 use Rattle.ccr_tracker.specs.Numbers.{Numbers, has}
@@ -16,8 +16,8 @@ use Rattle.ccr_model.specs.TaskFacts.{batches_of}
 use Rattle.ccr_model.specs.Past.{Line, Past, FollowerPast}
 use Rattle.ccr_model.specs.Invariants.{IsTrueFollowerCopy, AreTrueCopies, IsTrueReplication, IsTrueFollower, IsTrueReplica, IsTrueLeader}
 use Rattle.ccr_law_core.specs.Cores.{IsReplica, IsCore}
-use Rattle.ccr_law_base.proofs.Lists.{All-weaker, All-both, All-map_back, All-append_front, All-append_back, All-find, some_equal}
-use Rattle.ccr_law_core.proofs.Sets.{or_false, has-below}
+use Rattle.ccr_law_base.proofs.Lists.{All-weaker, All-both, All-map_back, All-append_front, All-append_back, All-find, some_equal, get_within}
+use Rattle.ccr_law_core.proofs.Sets.{or_false, count_within}
 use Rattle.ccr_law_settle.specs.Within.{IsReplicaWithin, AreWithin, AreWritesWithin, IsWithin, HoldsReads, IsReadable}
 use Rattle.ccr_law_settle.specs.Lowering.{CopyingLowers, WaitingLowers, EndingLowers, DeliveryLowers}
 use Rattle.ccr_law_settle.proofs.Copying.{replicate_at, ack_at, resync_at}
@@ -47,20 +47,6 @@ copying_lowers s within = record {
 }
 
 -- ---- in the words of the model
-
--- a number that a set has below its count, or that bounds it
-count_within : (seen : Numbers) (bound : ℕ) → ((n : ℕ) → has seen n ≡ true → n < bound) → seen.count ≤ bound
-count_within seen bound all =
-    let reach : bound < seen.count → bound < bound = (λ lt. all bound (has-below seen bound lt)) in
-    (elim (nat_lt bound seen.count) as (λ c. nat_lt bound seen.count ≡ c → seen.count ≤ bound) [
-      | true ↦ λ is. (let lt : bound < seen.count = grind (arith, nat_tests) in let no : bound < bound = reach lt in absurd (omega arith))
-      | false ↦ λ isnt. grind (arith, nat_tests)
-    ]) refl
-
-get_within : {X : Type 0} (xs : List X) (n : ℕ) (x : X) → slice_get xs n ≡ Some x → n < length xs
-get_within [] n x at = cc
-get_within (y ∷ xs) zero x at = omega arith
-get_within (y ∷ xs) (suc n) x at = let rest : n < length xs = get_within xs n x at in omega arith
 
 -- the leader's copies
 leader_within : (p : Past) → IsCore p → AreWithin p.state.leader.copies.primary.seen.count p.state.leader.copies

@@ -17,18 +17,19 @@ use Rattle.ccr_model.specs.World.{State, goes_to_leader, at_leader, at_follower,
 use Rattle.ccr_model.specs.Step.{step}
 use Rattle.ccr_model.specs.Settling.{may_be_answered}
 use Rattle.ccr_law_base.proofs.Cases.{on_if}
-use Rattle.ccr_law_base.proofs.Lists.{found-any}
+use Rattle.ccr_law_base.proofs.Lists.{found-any, length-filter-le}
 use Rattle.ccr_law_settle.specs.Measure.{total, passing, over_followers, is_idle_content, weight_of_frame, weight_of_progress, weight_of_stage, weight_of_work, rank_of, follower_lacks, old_peeks, lacking_of, IsLower}
 use Rattle.ccr_law_settle.specs.Within.{stage_waits_for, waits_for, IsAwaitedByNone}
 use Rattle.ccr_law_settle.proofs.Totals.{le_itself, over_set_same}
-use Rattle.ccr_law_settle.proofs.Joins.{append_none}
 use Rattle.ccr_law_settle.proofs.Flights.{weight_fewer, work_fewer}
 use Rattle.ccr_law_settle.proofs.Syncing.{carries, keeps}
 use Rattle.ccr_law_settle.proofs.Waking.{waits}
 use Rattle.ccr_law_settle.proofs.Taken.{total_remove, any_remove, ranks_left}
 use Rattle.ccr_law_settle.proofs.Delivering.{primary_found}
 use Rattle.ccr_law_settle.proofs.Gone.{over_each}
-use Rattle.ccr_law_settle.proofs.Refusals.{fewer_left}
+use Rattle.ccr_law_base.proofs.Tests.{or_second}
+use Rattle.std.proofs.lemmas.Bool.{both_ways}
+use Rattle.std.proofs.lemmas.List.{append-nil}
 
 -- ---- what is under way, where nothing that was sent waits for the message
 
@@ -60,10 +61,6 @@ turned a b false is = none (b == a)
 or_first : (a b : Bool) → (a || b) ≡ false → a ≡ false
 or_first true b is = cc
 or_first false b is = refl
-
-or_second : (a b : Bool) → (a || b) ≡ false → b ≡ false
-or_second true b is = cc
-or_second false b is = is
 
 all_unsent : {X : Type 0} (request : X → ℕ) (progress : X → Progress) (n : ℕ) (new old : ℕ → Bool) (now : ℕ) (xs : List X) → StillAnswered n new old
     → list_any (λ x. (request x == n) && is_sent (progress x)) xs ≡ false
@@ -151,7 +148,7 @@ stale_lower : (s : State) (at : ℕ) (m : Frame) (f : ℕ) (own : Follower) (req
     → IsAwaitedByNone s m.follower m.request → length requests ≤ length own.lease_requests
     → IsLower (record s { followers = slice_set s.followers f (record own { lease_requests = requests }); flight = remove s.flight at ++ [] }) s
 stale_lower s at m f own requests found light there none few =
-    subst (λ (flight : List Frame). IsLower (record s { followers = slice_set s.followers f new; flight = flight }) s) (sym (append_none (remove s.flight at)))
+    subst (λ (flight : List Frame). IsLower (record s { followers = slice_set s.followers f new; flight = flight }) s) (sym (append-nil (remove s.flight at)))
     (inr (
       (let left : over_followers (λ f own. rank_of (remove s.flight at) s.leader.sessions f own.work) 0 (slice_set s.followers f new)
           ≤ over_followers (λ f own. rank_of s.flight s.leader.sessions f own.work) 0 (slice_set s.followers f new)
@@ -188,10 +185,6 @@ stale_lower s at m f own requests found light there none few =
 
 -- ---- the message is delivered
 
-no_answer : (a : Bool) → a ≡ false → a ≡ true → ⊥
-no_answer true isnt is = cc
-no_answer false isnt is = cc
-
 -- what the work makes of it, where it doesn't wait for it: nothing
 work_ignores : (P : _ → Type 0) (base : Follower) (m : Frame) (w : Work) → waits_for m.request w ≡ false → P (ignored (record base { work = w })) → P (work_hears (record base { work = w }) m)
 work_ignores P base m (replicating t) unsent is = by (read_sent t m.request) (found-any (λ (r : Read). (r.request == m.request) && is_sent r.progress) t.reads ∙ unsent)
@@ -204,9 +197,9 @@ work_ignores P base m (restoring r) unsent is = by r.stage unsent is
     by : (stage : Stage) → stage_waits_for m.request stage ≡ false → P (ignored (record base { work = restoring (record r { stage = stage }) }))
         → P (work_hears (record base { work = restoring (record r { stage = stage }) }) m)
     by (leasing a) unsent is = on_if (λ (o : Option _). P (restore_heard (record base { work = restoring (record r { stage = leasing a }) }) o)) (answers m a) _ _
-        (λ yes. absurd (no_answer (answers m a) unsent yes)) (λ no. is)
+        (λ yes. absurd (both_ways (answers m a) unsent yes)) (λ no. is)
     by (opening a) unsent is = on_if (λ (o : Option _). P (restore_heard (record base { work = restoring (record r { stage = opening a }) }) o)) (answers m a) _ _
-        (λ yes. absurd (no_answer (answers m a) unsent yes)) (λ no. is)
+        (λ yes. absurd (both_ways (answers m a) unsent yes)) (λ no. is)
     by (fetching f) unsent is = asked (ask_sent f m.request) (found-any (λ (a : ChunkAsked). (a.request == m.request) && is_sent a.progress) f.asks ∙ unsent)
       where
         asked : (o : Option ChunkAsked) → is_some o ≡ false
@@ -219,7 +212,7 @@ row_lower : (s : State) (at : ℕ) (m : Frame) (f : ℕ) (own : Follower) → sl
 unfolding follower_receive_row
 row_lower s at m f own found light there none unsent =
     on_if (λ (o : _). IsLower (at_follower (left s at) f o).next s) (list_any (λ n. n == m.request) own.lease_requests) _ _
-    (λ is. stale_lower s at m f own (filter (λ n. not (n == m.request)) own.lease_requests) found light there none (fewer_left (λ n. not (n == m.request)) own.lease_requests))
+    (λ is. stale_lower s at m f own (filter (λ n. not (n == m.request)) own.lease_requests) found light there none (length-filter-le (λ n. not (n == m.request)) own.lease_requests))
     (λ isnt. work_ignores (λ o. IsLower (at_follower (left s at) f o).next s) own m own.work unsent
     (stale_lower s at m f own own.lease_requests found light there none (le_itself (length own.lease_requests))))
 

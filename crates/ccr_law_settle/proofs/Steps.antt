@@ -26,12 +26,9 @@ use Rattle.ccr_law_settle.proofs.Ticking.{none_ahead}
 use Rattle.ccr_law_settle.proofs.Stale.{left}
 use Rattle.ccr_law_settle.proofs.Hearing.{rank_lower, hearing_delivered}
 use Rattle.ccr_law_settle.proofs.Answering.{any_step}
+use Rattle.std.proofs.lemmas.Bool.{and_parts}
 
 -- ---- the bootstrap asks for a session
-
-both_true : (a b : Bool) → (a && b) ≡ true → (a ≡ true) × (b ≡ true)
-both_true true b is = (refl, is)
-both_true false b is = cc
 
 session_asked : (s : State) (at f : ℕ) (base : Follower) (r : Restore) (work : Work) → slice_get s.followers f ≡ Some (record base { work = work }) → AreBelow s.flight f r.next_request
     → 2 < rank_of s.flight s.leader.sessions f work → (o : Option (Sending Restore)) → o ≡ Some (asks_session (record r { retry = 0 }))
@@ -92,8 +89,8 @@ stage_opens : (s : State) (at : ℕ) (m : Frame) (f : ℕ) (base : Follower) (r 
 stage_opens s at m f base r (leasing a) found there below ours opens =
     on_if (λ (o : Option (Sending Restore)). IsLower (at_follower (left s at) f (restore_heard (record base { work = restoring (record r { stage = leasing a }) }) o)).next s) (answers m a) _ _
     (λ is. session_asked s at f base (record r { stage = leasing a }) (restoring (record r { stage = leasing a })) there below (omega arith) _
-    (heard_leasing (record r { stage = leasing a }) base.now m.request m.content (both_true (answers m a) (is_added m.content) opens).1))
-    (λ isnt. absurd (no_answer (answers m a) (both_true (answers m a) (is_added m.content) opens).0 isnt))
+    (heard_leasing (record r { stage = leasing a }) base.now m.request m.content (and_parts (answers m a) (is_added m.content) opens).1))
+    (λ isnt. absurd (no_answer (answers m a) (and_parts (answers m a) (is_added m.content) opens).0 isnt))
 stage_opens s at m f base r (opening a) found there below ours opens = cc
 stage_opens s at m f base r (fetching fetch) found there below ours opens = by (ask_sent fetch m.request) refl opens
   where

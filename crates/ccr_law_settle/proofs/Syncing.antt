@@ -31,9 +31,10 @@ use Rattle.ccr_law_base.proofs.Lists.{All-map, All-every}
 use Rattle.ccr_law_settle.specs.Measure.{total, passing, copy_lacks, replica_lacks, copies_lack, follower_lacks, work_lacks, over_followers, rank_of, idle_of, underway_of, leases_of, lacking_of, old_leases, old_peeks, opens_closed, is_gone, is_idle_content, weight_of_frame, weight_of_work, IsLess, IsLower}
 use Rattle.ccr_law_settle.specs.Within.{IsWithin}
 use Rattle.ccr_law_settle.proofs.Totals.{total_replaced, le_itself, over_set_same, over_set_less, total_append}
-use Rattle.ccr_law_settle.proofs.CopyRows.{and_left, and_right, not_of_true, guarded_passes}
+use Rattle.ccr_law_settle.proofs.CopyRows.{not_of_true, guarded_passes}
 use Rattle.ccr_law_settle.proofs.Flights.{IsPlain, ranks_more, idle_more, works_fewer}
-use Rattle.ccr_law_settle.proofs.Joins.{append_none}
+use Rattle.ccr_law_base.proofs.Tests.{and_first, and_second}
+use Rattle.std.proofs.lemmas.List.{append-nil}
 
 -- what a sync comes to: less is lacking, or no more is and fewer leases are old
 pub record Syncs (count : ℕ) (s : Copies) (o : Outcome Copies) : Type 0 where
@@ -67,14 +68,14 @@ sync_lowers count s copy low None at is = cc
 sync_lowers count s copy low (Some r) at is =
     record {
       replicas = replaced copy new s.replicas;
-      is = guarded_passes _ _ _ (not_of_true r.resynced (and_left r.resynced (nat_lt r.copy.global s.primary.global || supersedes s.primary.leases r.copy.leases) is), tt);
+      is = guarded_passes _ _ _ (not_of_true r.resynced (and_first r.resynced (nat_lt r.copy.global s.primary.global || supersedes s.primary.leases r.copy.leases) is), tt);
       no_more =
           (let sums : total (replica_lacks count) (replaced copy new s.replicas) + replica_lacks count r ≡ total (replica_lacks count) s.replicas + replica_lacks count new
           = total_replaced (replica_lacks count) copy new r s.replicas at in
           let le : replica_lacks count new ≤ replica_lacks count r = new_no_more in
           omega arith);
       lower = by (nat_lt r.copy.global s.primary.global) (supersedes s.primary.leases r.copy.leases) refl refl
-          (and_right r.resynced (nat_lt r.copy.global s.primary.global || supersedes s.primary.leases r.copy.leases) is);
+          (and_second r.resynced (nat_lt r.copy.global s.primary.global || supersedes s.primary.leases r.copy.leases) is);
     }
   where
     known : Copy
@@ -114,7 +115,7 @@ pub follower_syncs : (s : State) (f : ℕ) (own : Follower) (o : Outcome Copies)
     → IsLower (at_follower s f (within (with_follower_copies own) o)).next s
 follower_syncs s f own o at row =
     subst (λ (x : Outcome Copies). IsLower (at_follower s f (within (with_follower_copies own) x)).next s) (sym row.is)
-    (subst (λ (flight : List Frame). IsLower (record s { followers = slice_set s.followers f new; flight = flight }) s) (sym (append_none s.flight))
+    (subst (λ (flight : List Frame). IsLower (record s { followers = slice_set s.followers f new; flight = flight }) s) (sym (append-nil s.flight))
     (inr (
       over_set_same (λ f own. rank_of s.flight s.leader.sessions f own.work) f own new s.followers at (le_itself (rank_of s.flight s.leader.sessions f own.work)),
       by row.lower,

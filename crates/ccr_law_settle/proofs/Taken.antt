@@ -2,26 +2,22 @@
 use Rattle.std.specs.List.{list_any}
 use Rattle.std.specs.Str.{bytes_eq}
 use Rattle.std.specs.Prelude.{slice_get, remove}
-use Rattle.std.proofs.Common.{◌≡◌, ℕ, zero, suc, ◌+◌, ◌≤◌, ◌==◌, ◌&&◌, ◌||◌, Bool, true, false, if◌then◌else◌, Some, List, [], ◌∷◌, drop, is_none, refl, sym, ap, subst, arith}
+use Rattle.std.proofs.Common.{◌≡◌, ℕ, zero, suc, ◌+◌, ◌≤◌, ◌==◌, ◌&&◌, ◌||◌, Bool, true, false, if◌then◌else◌, Some, List, [], ◌∷◌, is_none, refl, sym, ap, subst, arith}
 use Rattle.ccr_wire.specs.Message.{Frame}
 use Rattle.ccr_model.specs.Requests.{is_sent}
 use Rattle.ccr_model.specs.Restores.{ChunkAsked, Stage, leasing, opening, fetching, answers}
 use Rattle.ccr_model.specs.Leaders.{Session, session_of}
 use Rattle.ccr_model.specs.Followers.{Follower, Work, restoring, replicating, uuid_of}
-use Rattle.ccr_law_base.proofs.Lists.{some_equal}
+use Rattle.ccr_law_base.proofs.Lists.{some_equal, drop-zero}
 use Rattle.ccr_law_base.proofs.Tests.{or-more}
 use Rattle.ccr_law_settle.specs.Measure.{total, over_followers, opens_closed, is_gone, is_opened_in_vain, is_told_gone, is_in_vain, rank_of_stage, rank_of}
 use Rattle.ccr_law_settle.proofs.Totals.{over_fewer}
-
-drop_none : {X : Type 0} (xs : List X) → drop zero xs ≡ xs
-drop_none [] = refl
-drop_none (x ∷ xs) = refl
 
 pub total_remove : {X : Type 0} (amount : X → ℕ) (xs : List X) (n : ℕ) (x : X) → slice_get xs n ≡ Some x → total amount (remove xs n) + amount x ≡ total amount xs
 total_remove amount [] n x at = cc
 total_remove amount (y ∷ xs) zero x at =
     let same : amount y ≡ amount x = ap amount (some_equal y x at) in
-    let e : total amount (remove (y ∷ xs) zero) ≡ total amount xs = ap (total amount) (drop_none xs) in
+    let e : total amount (remove (y ∷ xs) zero) ≡ total amount xs = ap (total amount) (drop-zero xs) in
     omega arith
 total_remove amount (y ∷ xs) (suc n) x at =
     let rest : total amount (remove xs n) + amount x ≡ total amount xs = total_remove amount xs n x at in omega arith
@@ -31,7 +27,7 @@ pub any_remove : {X : Type 0} (test : X → Bool) (xs : List X) (n : ℕ) (x : X
 any_remove test [] n x at any = cc
 any_remove test (y ∷ xs) zero x at any =
     subst (λ (z : _). (test z || list_any test (remove (y ∷ xs) zero)) ≡ true) (some_equal y x at)
-    (subst (λ (zs : List _). (test y || list_any test zs) ≡ true) (sym (drop_none xs)) any)
+    (subst (λ (zs : List _). (test y || list_any test zs) ≡ true) (sym (drop-zero xs)) any)
 any_remove test (y ∷ xs) (suc n) x at any = past (test y) (list_any test xs) (test x) (list_any test (remove xs n)) any (any_remove test xs n x at)
   where
     past : (y rest x left : Bool) → (y || rest) ≡ true → (rest ≡ true → (x || left) ≡ true) → (x || (y || left)) ≡ true
@@ -43,7 +39,7 @@ any_remove test (y ∷ xs) (suc n) x at any = past (test y) (list_any test xs) (
 pub any_left : {X : Type 0} (test : X → Bool) (xs : List X) (n : ℕ) → list_any test (remove xs n) ≡ true → list_any test xs ≡ true
 any_left test [] zero any = cc
 any_left test [] (suc n) any = cc
-any_left test (y ∷ xs) zero any = late (test y) (list_any test xs) (subst (λ (zs : List _). list_any test zs ≡ true) (drop_none xs) any)
+any_left test (y ∷ xs) zero any = late (test y) (list_any test xs) (subst (λ (zs : List _). list_any test zs ≡ true) (drop-zero xs) any)
   where
     late : (a b : Bool) → b ≡ true → (a || b) ≡ true
     late true b is = refl

@@ -18,9 +18,10 @@ use Rattle.ccr_model.specs.Past.{Past}
 use Rattle.ccr_model.specs.FrameFacts.{Reading, reading_in, reading_of, IsTruePoll, AsksAsRead}
 use Rattle.ccr_law_base.proofs.Cases.{on_if}
 use Rattle.ccr_law_base.proofs.Lists.{All-weaker, All-both, All-filter, All-find, All-map_back, some_equal, All-places}
-use Rattle.ccr_law_leases.proofs.Finding.{All-unfilter, All-pass, and-true}
+use Rattle.ccr_law_leases.proofs.Finding.{All-unfilter, All-pass}
 use Rattle.ccr_law_kinds.specs.Purposes.{for_lease, for_read, Agree, awaited}
 use Rattle.ccr_law_parked.specs.Parked.{ArePollsThere}
+use Rattle.std.proofs.lemmas.Bool.{and_parts}
 
 -- ---- polls wait for more than there is
 
@@ -45,7 +46,7 @@ found_passes test s n c all found =
 asks_late : (count from : ℕ) (o : Option Copy) → ((c : Copy) → o ≡ Some c → is_whole count c ≡ true) → is_some o ≡ true → option_map_or (λ (c : Copy). nat_lt from c.global) o false ≡ false → count ≤ from
 asks_late count from None whole there idle = cc
 asks_late count from (Some c) whole there idle =
-    let knows : (c.global == count) ≡ true = (and-true (nat_le count c.seen.count) (c.global == count) (whole c refl)).1 in
+    let knows : (c.global == count) ≡ true = (and_parts (nat_le count c.seen.count) (c.global == count) (whole c refl)).1 in
     late c.global knows idle
   where
     late : (global : ℕ) → (global == count) ≡ true → nat_lt from global ≡ false → count ≤ from

@@ -16,6 +16,8 @@ use Rattle.ccr_law_leases.proofs.Finding.{All-unfilter}
 use Rattle.ccr_law_frames.specs.Asking.{ReadsApart}
 use Rattle.ccr_law_frames.proofs.Finds.{find-skips, find-takes}
 use Rattle.ccr_law_frames.proofs.ReadLists.{answers_to, none-answers}
+use Rattle.std.proofs.lemmas.Bool.{not-false}
+use Rattle.ccr_law_base.proofs.Tests.{other_turned, itself}
 
 -- ---- each read is on its way
 
@@ -54,18 +56,12 @@ all_sent t may none held =
 
 -- ---- the read that is found by its number
 
-itself : (n : ℕ) → (n == n) ≡ true
-itself n = grind (arith, nat_tests)
-
-turned : (a b : ℕ) → (a == b) ≡ false → (b == a) ≡ false
-turned a b isnt = grind (arith, nat_tests)
-
 pub each_found : (reads : List Read) → ReadsApart reads → AreSent reads → AllByRecursion (λ (r : Read). find (answers_to r.request) reads ≡ Some r) reads
 each_found [] apart sent = tt
 each_found (r ∷ reads) apart sent = (
   find-takes (answers_to r.request) r reads (rw (itself r.request) sent.0),
   All-weaker (λ (x : Read). ((x.request == r.request) ≡ false) × (find (answers_to x.request) reads ≡ Some x)) (λ (x : Read). find (answers_to x.request) (r ∷ reads) ≡ Some x)
-      (λ x both. find-skips (answers_to x.request) r reads (none-answers x.request r (turned x.request r.request both.0)) ∙ both.1) reads
+      (λ x both. find-skips (answers_to x.request) r reads (none-answers x.request r (other_turned x.request r.request both.0)) ∙ both.1) reads
       (All-both (λ (x : Read). (x.request == r.request) ≡ false) (λ (x : Read). find (answers_to x.request) reads ≡ Some x) reads apart.0 (each_found reads apart.1 sent.1)),
 )
 
@@ -93,16 +89,12 @@ of_all_sent P t sent all =
 
 -- ---- each may be answered
 
-yes : (a : Bool) → not a ≡ false → a ≡ true
-yes true is = refl
-yes false is = cc
-
 pub each_answerable : (s : State) (f : ℕ) (own : Follower) (t : Task) → slice_get s.followers f ≡ Some own → own.work ≡ replicating t → AreSent t.reads
     → ((at : ℕ) → may_lose s f at ≡ false) → AllByRecursion (λ (r : Read). may_be_answered s (uuid_of f) r.request ≡ true) t.reads
 each_answerable s f own t there is sent none =
     of_all_sent (λ (r : Read). may_be_answered s (uuid_of f) r.request ≡ true) t sent
     (All-places (λ (r : Read). may_be_answered s (uuid_of f) r.request ≡ true) (sent_reads t)
-    (λ at r found. yes (may_be_answered s (uuid_of f) r.request)
+    (λ at r found. not-false (may_be_answered s (uuid_of f) r.request)
     (subst (λ (o : Option Read). option_map_or (λ (request : ℕ). not (may_be_answered s (uuid_of f) request)) (option_map {T = Read} {U = ℕ} (λ r. r.request) o) false ≡ false) found
     (subst (λ (w : Work). option_map_or (λ (request : ℕ). not (may_be_answered s (uuid_of f) request)) (request_at w at) false ≡ false) is
     (subst (λ (o : Option Follower). option_map_or (λ (x : Follower). option_map_or (λ (request : ℕ). not (may_be_answered s (uuid_of f) request)) (request_at x.work at) false) o false ≡ false) there

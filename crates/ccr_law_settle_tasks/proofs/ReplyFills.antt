@@ -13,10 +13,10 @@ use Rattle.ccr_law_base.proofs.Cases.{on_if}
 use Rattle.ccr_law_base.proofs.Lists.{All-append}
 use Rattle.ccr_law_settle.specs.Measure.{total, is_idle_content, task_lacks, old_peeks}
 use Rattle.ccr_law_settle.proofs.Totals.{le_itself, total_append}
-use Rattle.ccr_law_settle.proofs.CopyRows.{and_right}
 use Rattle.ccr_law_settle.proofs.LostRequests.{total_changed_read}
 use Rattle.ccr_law_settle.proofs.Filling.{Fills, fills_quietly, fills_then, batches_lack, again_fills, read_fills}
 use Rattle.ccr_law_settle_tasks.proofs.ReplyReads.{peek_below}
+use Rattle.ccr_law_base.proofs.Tests.{and_second}
 
 -- the task asked for no more, and has no more old peeks
 pub record StandsStill (t new : Task) : Type 0 where
@@ -137,7 +137,7 @@ reads_fill_on zero count sessions t within = fills_on_quietly count sessions t
 reads_fill_on (suc n) count sessions t within =
     on_if (FillsOn count sessions t) (has_budget t && nat_lt t.next t.known) (followed_by (next_read t) (with_reads n)) (quiet t)
     (λ is.
-    let lt : t.next < t.known = below (and_right (has_budget t) (nat_lt t.next t.known) is) in
+    let lt : t.next < t.known = below (and_second (has_budget t) (nat_lt t.next t.known) is) in
     let to : ℕ = min t.known (t.next + t.params.max_read_request_operation_count) in
     let one : FillsOn count sessions t (next_read t) = read_fills_on count sessions t to (asks t (to - t.next)) (omega arith) (inl (omega arith)) in
     fills_on_then count sessions t (next_read t) (with_reads n) one (reads_fill_on n count sessions (next_read t).next within))

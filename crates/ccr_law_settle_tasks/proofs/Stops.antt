@@ -13,11 +13,11 @@ use Rattle.ccr_model.specs.Settling.{may_be_answered}
 use Rattle.ccr_law_base.proofs.Lists.{some_equal, set-other, set-same}
 use Rattle.ccr_law_settle.specs.Measure.{total, passing, over_followers, is_idle_content, weight_of_frame, weight_of_work, rank_of, task_lacks, work_lacks, follower_lacks, old_peeks, IsLower}
 use Rattle.ccr_law_settle.proofs.Totals.{le_itself, over_set_same}
-use Rattle.ccr_law_settle.proofs.Joins.{append_none}
 use Rattle.ccr_law_settle.proofs.Flights.{work_fewer}
 use Rattle.ccr_law_settle.proofs.Taken.{total_remove, ranks_left}
 use Rattle.ccr_law_settle.proofs.Gone.{over_each}
 use Rattle.ccr_law_settle.proofs.Stale.{left, still, idle_left}
+use Rattle.std.proofs.lemmas.List.{append-nil}
 
 -- the message names this follower alone
 abbrev pub NamesAlone : State → Frame → ℕ → Type 0
@@ -60,7 +60,7 @@ pub stop_lower : (s : State) (at : ℕ) (m : Frame) (f : ℕ) (own : Follower) (
     → own.work ≡ replicating t → NamesAlone s m f
     → IsLower (record s { followers = slice_set s.followers f (with_task own (stopped phase (record t { retry = 0 }))); flight = remove s.flight at ++ [] }) s
 stop_lower s at m f own t phase found light there works alone =
-    subst (λ (flight : List Frame). IsLower (record s { followers = slice_set s.followers f new; flight = flight }) s) (sym (append_none (remove s.flight at)))
+    subst (λ (flight : List Frame). IsLower (record s { followers = slice_set s.followers f new; flight = flight }) s) (sym (append-nil (remove s.flight at)))
     (inr (
       (let fewer : over_followers (λ f own. rank_of (remove s.flight at) s.leader.sessions f own.work) 0 (slice_set s.followers f new)
           ≤ over_followers (λ f own. rank_of s.flight s.leader.sessions f own.work) 0 (slice_set s.followers f new)

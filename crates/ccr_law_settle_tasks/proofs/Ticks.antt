@@ -24,7 +24,6 @@ use Rattle.ccr_law_frames.proofs.ReadLists.{AreListed, all-listed, filter-listed
 use Rattle.ccr_law_tasks.specs.GoodFollowers.{IsGoodWork, HasGoodTasks}
 use Rattle.ccr_law_tasks.proofs.WriteLists.{length-mapped}
 use Rattle.ccr_law_settle.specs.Measure.{total, passing, IsLower}
-use Rattle.ccr_law_settle.proofs.Joins.{append_none}
 use Rattle.ccr_law_settle.proofs.Syncing.{carries}
 use Rattle.ccr_law_settle.proofs.LostRequests.{All-in_order}
 use Rattle.ccr_law_settle.proofs.Filling.{write_amount}
@@ -35,6 +34,7 @@ use Rattle.ccr_law_settle_tasks.specs.TaskLowering.{TicksLower}
 use Rattle.ccr_law_settle_tasks.proofs.TickReads.{as_many_in_order, some_due, NoneHeld, Repeats, again_repeats, again_named}
 use Rattle.ccr_law_settle_tasks.proofs.TickWrites.{put_on_way, has_due_write, same_amounts, writes_lighter}
 use Rattle.ccr_law_settle_tasks.proofs.TickFills.{filled_nothing, still_saturated}
+use Rattle.std.proofs.lemmas.List.{append-nil}
 
 -- ---- a task whose reads were sent again
 
@@ -51,7 +51,7 @@ rest_is : (now : ℕ) (t : Task) (next_request : ℕ) (reads : List Read) (done 
     → followed_by done (rest_of_tick now) ≡ record { next = ticked_to now t next_request reads; sent = done.sent }
 rest_is now t next_request reads done is same held saturated =
     ap (λ (rest : Sending Task). record { next = rest.next; sent = done.sent ++ rest.sent }) nothing
-    ∙ ap (λ (sent : List Frame). record { next = ticked_to now t next_request reads; sent = sent }) (append_none done.sent)
+    ∙ ap (λ (sent : List Frame). record { next = ticked_to now t next_request reads; sent = sent }) (append-nil done.sent)
   where
     nothing : rest_of_tick now done.next ≡ quiet (ticked_to now t next_request reads)
     nothing =

@@ -6,6 +6,8 @@ use Rattle.std.proofs.Common.{◌≡◌, ℕ, suc, ◌+◌, ◌-◌, ◌*◌, �
 use Rattle.std.proofs.lemmas.Bool.Decides.{nat_tests}
 use Rattle.std.proofs.lemmas.Str.{IsUtf8-append, IsUtf8-encode, IsUtf8-take, IsUtf8-drop, IsCharBoundary-before_ascii, IsCharBoundary-after_ascii, encode_ascii}
 use Rattle.json.specs.Text.{code_unit, short_escape, is_high_surrogate, is_low_surrogate, surrogate_pair, Within, plain, after_backslash, after_u, after_high, prepend, content}
+use Rattle.std.proofs.lemmas.Bool.{and_parts}
+use Rattle.ccr_law_base.proofs.Lists.{some_equal}
 
 -- ---- texts and ASCII
 
@@ -51,14 +53,6 @@ one_ascii x small =
 pub on_cond : {X : Type 0} (P : X → Type 0) (b : Bool) (x y : X) → (b ≡ true → P x) → (b ≡ false → P y) → P (cond b x y)
 on_cond P b x y holds fails = (elim b as (λ c. b ≡ c → P (cond c x y)) [ true ↦ holds | false ↦ fails ]) refl
 
-pub some_same : {X : Type 0} (a b : X) → Some a ≡ Some b → a ≡ b
-some_same a b e = cc
-
-pub both_of : (a b : Bool) → (a && b) ≡ true → (a ≡ true) × (b ≡ true)
-both_of true true e = (refl, refl)
-both_of true false e = cc
-both_of false b e = cc
-
 -- ---- escapes
 
 -- a byte with a short escape, and what that stands for, are ASCII
@@ -66,7 +60,7 @@ escaped_ascii : (x c : ℕ) → short_escape x ≡ Some c → (x < 128) × (c < 
 unfolding short_escape
 escaped_ascii x c =
     on_cond P ((x == 34) || (x == 92) || (x == 47)) (Some x) _
-    (λ is e. let same : x ≡ c = some_same x c e in let low : x < 128 = grind (arith, nat_tests) in (low, omega arith))
+    (λ is e. let same : x ≡ c = some_equal x c e in let low : x < 128 = grind (arith, nat_tests) in (low, omega arith))
     (λ isnt. at 98 8 _ (omega arith) (omega arith) (at 102 12 _ (omega arith) (omega arith) (at 110 10 _ (omega arith) (omega arith)
     (at 114 13 _ (omega arith) (omega arith) (at 116 9 None (omega arith) (omega arith) (λ e. cc))))))
   where
@@ -76,7 +70,7 @@ escaped_ascii x c =
     at : (letter code : ℕ) (rest : Option ℕ) → letter < 128 → code < 128 → P rest → P (cond (x == letter) (Some code) rest)
     at letter code rest low small others =
         on_cond P (x == letter) (Some code) rest
-        (λ is e. let same : code ≡ c = some_same code c e in let own : x ≡ letter = grind (arith, nat_tests) in (omega arith, omega arith)) (λ isnt. others)
+        (λ is e. let same : code ≡ c = some_equal code c e in let own : x ≡ letter = grind (arith, nat_tests) in (omega arith, omega arith)) (λ isnt. others)
 
 digit_ascii : (x : ℕ) → is_digit x 16 ≡ true → x < 128
 digit_ascii x =
@@ -103,16 +97,16 @@ unfolding code_unit
 unit_small a b c d u =
     on_cond P (is_digit a 16 && is_digit b 16 && is_digit c 16 && is_digit d 16) (Some (digit_value a * 4096 + digit_value b * 256 + digit_value c * 16 + digit_value d)) None
     (λ is e.
-    let three = both_of (is_digit a 16 && is_digit b 16 && is_digit c 16) (is_digit d 16) is in
-    let two = both_of (is_digit a 16 && is_digit b 16) (is_digit c 16) three.0 in
-    let one = both_of (is_digit a 16) (is_digit b 16) two.0 in
+    let three = and_parts (is_digit a 16 && is_digit b 16 && is_digit c 16) (is_digit d 16) is in
+    let two = and_parts (is_digit a 16 && is_digit b 16) (is_digit c 16) three.0 in
+    let one = and_parts (is_digit a 16) (is_digit b 16) two.0 in
     record {
       first = digit_ascii a one.0;
       second = digit_ascii b one.1;
       third = digit_ascii c two.1;
       fourth = digit_ascii d three.1;
       low =
-          let same : digit_value a * 4096 + digit_value b * 256 + digit_value c * 16 + digit_value d ≡ u = some_same _ u e in
+          let same : digit_value a * 4096 + digit_value b * 256 + digit_value c * 16 + digit_value d ≡ u = some_equal _ u e in
           let va : digit_value a < 16 = below (digit_value a) one.0 in
           let vb : digit_value b < 16 = below (digit_value b) one.1 in
           let vc : digit_value c < 16 = below (digit_value c) two.1 in
@@ -144,15 +138,15 @@ Reads qs s o = o ≡ Some s → IsUtf8 (qs ++ s)
 
 prepended : (bytes : List ℕ) (o : Option (List ℕ)) (s : List ℕ) → prepend bytes o ≡ Some s → (rest : List ℕ) × (o ≡ Some rest) × (bytes ++ rest ≡ s)
 prepended bytes None s e = cc
-prepended bytes (Some rest) s e = (rest, refl, some_same (bytes ++ rest) s e)
+prepended bytes (Some rest) s e = (rest, refl, some_equal (bytes ++ rest) s e)
 
 scalar_of : (u : ℕ) → u < 65536 → is_high_surrogate u ≡ false → is_low_surrogate u ≡ false → IsScalar u
 scalar_of u low high surrogate = grind (arith, nat_tests)
 
 pair_of : (h l : ℕ) → is_high_surrogate h ≡ true → is_low_surrogate l ≡ true → IsScalar (surrogate_pair h l)
 pair_of h l high low =
-    let hs = both_of (nat_le 0xd800 h) (nat_lt h 0xdc00) high in
-    let ls = both_of (nat_le 0xdc00 l) (nat_lt l 0xe000) low in
+    let hs = and_parts (nat_le 0xd800 h) (nat_lt h 0xdc00) high in
+    let ls = and_parts (nat_le 0xdc00 l) (nat_lt l 0xe000) low in
     scalar_in (surrogate_pair h l) (summed h l (least h 0xd800 hs.0) (less h 0xdc00 hs.1) (least l 0xdc00 ls.0) (less l 0xe000 ls.1)).0
     (summed h l (least h 0xd800 hs.0) (less h 0xdc00 hs.1) (least l 0xdc00 ls.0) (less l 0xe000 ls.1)).1
   where
@@ -175,7 +169,7 @@ content_text plain (x ∷ xs) qs s passed =
     on_cond (Reads qs s) (x == 34) (Some []) _
     (λ is e.
     let own : x ≡ 34 = grind (arith, nat_tests) in
-    subst (λ (l : List ℕ). IsUtf8 (qs ++ l)) (some_same [] s e) (subst IsUtf8 (sym (append-nil qs)) (before_ascii qs x xs (omega arith) passed)))
+    subst (λ (l : List ℕ). IsUtf8 (qs ++ l)) (some_equal [] s e) (subst IsUtf8 (sym (append-nil qs)) (before_ascii qs x xs (omega arith) passed)))
     (λ isnt. on_cond (Reads qs s) (x == 92) (content after_backslash xs) _
     (λ is. let own : x ≡ 92 = grind (arith, nat_tests) in content_text after_backslash xs qs s (before_ascii qs x xs (omega arith) passed, after_ascii qs x xs (omega arith) passed))
     (λ other. on_cond (Reads qs s) (nat_lt x 32) None _ (λ control e. cc)
@@ -235,7 +229,7 @@ content_text (after_high h) (p ∷ v ∷ a ∷ b ∷ c ∷ d ∷ xs) qs s passed
     by_unit go is None small = λ e. cc
     by_unit go is (Some l) small =
         let fits : IsUnit a b c d l = small l refl in
-        let begins = both_of (p == 92) (v == 117) is in
+        let begins = and_parts (p == 92) (v == 117) is in
         let first : p < 128 = at_most p 92 begins.0 (omega arith) in
         let second : v < 128 = at_most v 117 begins.1 (omega arith) in
         let left : IsUtf8 xs = after_ascii [] d xs fits.fourth (after_ascii [] c (d ∷ xs) fits.third (after_ascii [] b (c ∷ d ∷ xs) fits.second (after_ascii [] a (b ∷ c ∷ d ∷ xs) fits.first

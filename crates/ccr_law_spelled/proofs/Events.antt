@@ -30,7 +30,8 @@ use Rattle.ccr_law_core.proofs.Events.{searched_keeps}
 use Rattle.ccr_law_stores.specs.TrueStores.{HasTrueStores}
 use Rattle.ccr_law_spelled.specs.Spelled.{IsSmall, AreSmall, HasSmallOps}
 use Rattle.ccr_law_stores.proofs.Rows.{IsFit, primary-fit, replica-fit}
-use Rattle.ccr_law_spelled.proofs.Small.{small-later, small-quiet, small-gave, small-gaining, small-joined, small-plugged, count-low, end-low, processed-low, live-of, written-small}
+use Rattle.ccr_law_spelled.proofs.Small.{small-later, small-quiet, small-gave, small-gaining, small-joined, small-plugged, end-low, processed-low, live-of, written-small}
+use Rattle.ccr_law_core.proofs.Sets.{count_within}
 
 -- the claims after an event, where this is what it comes to
 abbrev pub SmallAfter : Past → Event → Outcome State → Type 0
@@ -72,7 +73,7 @@ write_small p request None fits core stores ok =
     (old-small p s.primary.number ok)
     (λ op at. subst (IsSmall (p.place + 1)) (some_equal (written_operation request (wrote_at s request found)) op at)
     (written-small p.place s request found fits
-    (count-low s.primary.seen p.place (processed-low p.place p.given s.term s.primary.number s.primary.seen ok fit.numbered fit.processed)) ok.low
+    (count_within s.primary.seen p.place (processed-low p.place p.given s.term s.primary.number s.primary.seen ok fit.numbered fit.processed)) ok.low
     (λ op is. live-of (λ (x : Operation). x.version ≤ p.place) (held s.primary.store) request.id op
     (All-weaker (IsAmong (p.given s.primary.number)) (λ (x : Operation). x.version ≤ p.place) (λ x given. (ok.each s.primary.number x.seq x given).version)
     (held s.primary.store) stores.own.store.ours) is))))

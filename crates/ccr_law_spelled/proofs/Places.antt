@@ -19,9 +19,10 @@ use Rattle.ccr_law_spelled.specs.Spelled.{IsSmall, HasSmallOps, IsSpelled}
 use Rattle.ccr_law_stores.proofs.Rows.{IsFit, primary-fit}
 use Rattle.ccr_law_stores.proofs.Sessions.{session-of-leader}
 use Rattle.ccr_law_stores.proofs.Events.{stores-start, stores-keeps}
-use Rattle.ccr_law_spelled.proofs.Small.{count-low, processed-low, line-spelled}
+use Rattle.ccr_law_spelled.proofs.Small.{processed-low, line-spelled}
 use Rattle.ccr_law_base.proofs.Journals.{by_fit_entries}
 use Rattle.ccr_law_spelled.proofs.Events.{small-keeps}
+use Rattle.ccr_law_core.proofs.Sets.{count_within}
 
 -- ---- what the claims imply
 
@@ -36,7 +37,7 @@ pub line-low : (p : Past) → IsCore p → HasSmallOps p → length p.line.ops �
 line-low p core ok =
     let s = p.state.leader.copies in
     let fit : IsFit (p.given s.primary.number) s.primary = primary-fit p.line (p.given s.primary.number) s.primary core.rest.primary in
-    let count : s.primary.seen.count ≤ p.place = count-low s.primary.seen p.place (processed-low p.place p.given s.term s.primary.number s.primary.seen ok fit.numbered fit.processed) in
+    let count : s.primary.seen.count ≤ p.place = count_within s.primary.seen p.place (processed-low p.place p.given s.term s.primary.number s.primary.seen ok fit.numbered fit.processed) in
     let same : s.primary.seen.count ≡ length p.line.ops = ap (λ (n : Numbers). n.count) core.rest.primary.gapless in
     omega arith
 

@@ -23,8 +23,8 @@ use Rattle.ccr_law_core.proofs.Changes.{some-of}
 use Rattle.ccr_law_stores.specs.TrueStores.{AreNumbered, CanBeSpelled}
 use Rattle.ccr_law_spelled.specs.Spelled.{IsSmall, AreSmall}
 use Rattle.ccr_law_spelled.proofs.Sources.{source_fits}
-use Rattle.ccr_law_stores.proofs.Keeping.{below_or}
 use Rattle.ccr_law_stores.proofs.Histories.{low_some}
+use Rattle.ccr_law_core.proofs.Sets.{count_within}
 
 pub small-later : (place : ℕ) (op : Operation) → IsSmall place op → IsSmall (place + 1) op
 small-later place op ok = record {
@@ -79,12 +79,6 @@ small-plugged place term bound ops low few old n op at =
 
 -- ---- numbers
 
-pub count-low : (seen : Numbers) (place : ℕ) → ((k : ℕ) → has seen k ≡ true → k < place) → seen.count ≤ place
-count-low seen place all = below_or (seen.count ≤ place) place seen.count
-    (λ lt. let is : nat_lt place seen.count ≡ true = grind (arith, nat_tests) in
-    let never : place < place = all place (ap (λ (b : Bool). b || list_any (λ n. n == place) seen.above) is) in absurd (omega arith))
-    (λ le. le)
-
 pub greatest-low : (xs : List ℕ) (place : ℕ) → ((k : ℕ) → list_any (λ n. n == k) xs ≡ true → k < place) → greatest (map {A = ℕ} {B = ℕ} (λ n. n + 1) xs) ≤ place
 greatest-low [] place all = omega arith
 greatest-low (x ∷ xs) place all =
@@ -101,7 +95,7 @@ greatest-low (x ∷ xs) place all =
 
 pub end-low : (seen : Numbers) (place : ℕ) → ((k : ℕ) → has seen k ≡ true → k < place) → end_of seen ≤ place
 end-low seen place all =
-    let count : seen.count ≤ place = count-low seen place all in
+    let count : seen.count ≤ place = count_within seen place all in
     let above : greatest (map {A = ℕ} {B = ℕ} (λ n. n + 1) seen.above) ≤ place
     = greatest-low seen.above place (λ k is. all k (or_right (nat_lt k seen.count) (list_any (λ n. n == k) seen.above) is)) in
     omega arith

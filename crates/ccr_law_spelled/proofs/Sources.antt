@@ -2,7 +2,7 @@
 use Rattle.std.specs.Prelude.{ℤ, pos, negsuc, Result, decimal, ◌/◌, ◌%◌, ◌==◌}
 use Rattle.std.specs.Fmt.{signed_decimal, digits, digits_onto, digit_glyph}
 use Rattle.std.specs.Str.{IsUtf8, is_utf8}
-use Rattle.std.proofs.Common.{◌≡◌, ℕ, zero, suc, ◌+◌, ◌<◌, ◌≤◌, ◌||◌, Bool, true, false, not, nat_lt, Option, Some, None, is_some, is_none, List, [], ◌∷◌, ◌++◌, length, Ok, Err, refl, ap, ◌∙◌, subst, arith}
+use Rattle.std.proofs.Common.{◌≡◌, ℕ, zero, suc, ◌+◌, ◌<◌, ◌≤◌, Bool, true, false, not, nat_lt, Option, Some, None, is_some, is_none, List, [], ◌∷◌, ◌++◌, length, Ok, Err, refl, ap, ◌∙◌, subst, arith}
 use Rattle.std.proofs.lemmas.Bool.Decides.{nat_tests}
 use Rattle.std.proofs.lemmas.Str.{IsUtf8-append, IsUtf8-nil, IsUtf8-from_is_utf8}
 use Rattle.ccr_op.specs.Operation.{IsSourceText}
@@ -18,13 +18,9 @@ use Rattle.ccr_doc.specs.declared.sources.BadSource.TheVariants.{NotObject, Numb
 use Rattle.ccr_law_base.proofs.Cases.{on_if}
 use Rattle.ccr_law_spelled.proofs.Contents.{one_ascii}
 use Rattle.ccr_law_spelled.proofs.Values.{IsTextData, AreTextElements, AreTextFields, read_text}
+use Rattle.std.proofs.lemmas.Bool.{or_parts}
 
 -- ---- what is written is UTF-8
-
-neither : (a b : Bool) → (a || b) ≡ false → (a ≡ false) × (b ≡ false)
-neither false false e = (refl, refl)
-neither false true e = cc
-neither true b e = cc
 
 -- digits in base ten are ASCII, however many there are
 digits_text : (k n : ℕ) (acc : List ℕ) → IsUtf8 acc → IsUtf8 (digits_onto k 10 false n acc)
@@ -66,14 +62,14 @@ mutual
   items_written : (later : Bool) (ds : Items) → AreTextElements ds → items_have_other_number ds ≡ false → IsUtf8 (items_text later ds)
   items_written later no_items own whole = IsUtf8-are_ascii (93 ∷ []) refl
   items_written later (item d ds) own whole =
-      let both = neither (has_other_number d) (items_have_other_number ds) whole in
+      let both = or_parts (has_other_number d) (items_have_other_number ds) whole in
       comma_text later (compact_text d ++ items_text true ds)
       (IsUtf8-append (compact_text d) (items_text true ds) (written_text d own.0 both.0) (items_written true ds own.1 both.1))
 
   members_written : (later : Bool) (ms : Members) → AreTextFields ms → members_have_other_number ms ≡ false → IsUtf8 (members_text later ms)
   members_written later no_members own whole = IsUtf8-are_ascii (125 ∷ []) refl
   members_written later (member k d ms) own whole =
-      let both = neither (has_other_number d) (members_have_other_number ms) whole in
+      let both = or_parts (has_other_number d) (members_have_other_number ms) whole in
       comma_text later (quoted k ++ 58 ∷ (compact_text d ++ members_text true ms))
       (IsUtf8-append (quoted k) (58 ∷ (compact_text d ++ members_text true ms)) (IsUtf8-quoted k own.0)
       (IsUtf8-append (58 ∷ []) (compact_text d ++ members_text true ms) (IsUtf8-are_ascii (58 ∷ []) refl)

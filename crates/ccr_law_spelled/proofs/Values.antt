@@ -12,8 +12,8 @@ use Rattle.json.specs.Lex.{tokens}
 use Rattle.json.specs.Json as json
 use Rattle.serde_json.specs.Data.{Data, null, boolean, number, string, array, object, Items, no_items, item, Members, no_members, member, put}
 use Rattle.serde_json.specs.Read.{number_of, of_json, of_items, of_members, read, max_depth}
-use Rattle.ccr_law_spelled.proofs.Contents.{some_same}
 use Rattle.ccr_law_spelled.proofs.Tokens.{IsTextToken, tokens_text}
+use Rattle.ccr_law_base.proofs.Lists.{some_equal}
 
 abbrev AreTexts : List Token → Type 0
 AreTexts ts = AllByRecursion IsTextToken ts
@@ -54,7 +54,7 @@ closed [] all rest e = cc
 closed (Token.begin_object ∷ ts) all rest e = cc
 closed (Token.end_object ∷ ts) all rest e = cc
 closed (Token.begin_array ∷ ts) all rest e = cc
-closed (Token.end_array ∷ ts) all rest e = subst AreTexts (some_same ts rest e) all.1
+closed (Token.end_array ∷ ts) all rest e = subst AreTexts (some_equal ts rest e) all.1
 closed (Token.key s ∷ ts) all rest e = cc
 closed (Token.string s ∷ ts) all rest e = cc
 closed (Token.number s ∷ ts) all rest e = cc

@@ -12,11 +12,11 @@ use Rattle.ccr_model.specs.Copies.{Copy, taking, knowing}
 use Rattle.ccr_model.specs.LeaderRows.{filled, end_of, missing_numbers}
 use Rattle.ccr_model.specs.Given.{IsAmong, or_else, gaining, plugged, joined_at}
 use Rattle.ccr_law_base.proofs.Cases.{on_if}
-use Rattle.ccr_law_base.proofs.Lists.{All-weaker, All-both, All-filter, All-filter_test, any-range}
+use Rattle.ccr_law_base.proofs.Lists.{All-weaker, All-both, All-filter, All-filter_test, any-range, All-in}
 use Rattle.ccr_law_core.proofs.Changes.{gained, gained-some}
 use Rattle.ccr_law_core.proofs.Sets.{has-marked, any-filter_test}
 use Rattle.ccr_law_stores.specs.TrueStores.{one, times, StoreOk, IsTrueStore, AreNumbered}
-use Rattle.ccr_law_stores.proofs.Counting.{times-filter, has-same, has_by_times, All-in, in-find, found_at}
+use Rattle.ccr_law_stores.proofs.Counting.{times-filter, has-same, has_by_times, in-find, found_at}
 use Rattle.ccr_law_stores.proofs.Holding.{held-sifted, times-stored_all, All-stored_all}
 use Rattle.ccr_law_stores.proofs.Keeping.{below_or, store-above, store-given, store-gains, store-counts, store-flushes}
 use Rattle.ccr_law_stores.proofs.Histories.{filter-below}

@@ -8,7 +8,7 @@ use Rattle.ccr_op.specs.Operation.{Operation}
 use Rattle.ccr_model.specs.Operations.{has_number, op_at}
 use Rattle.ccr_model.specs.Answers.{IsIn}
 use Rattle.ccr_law_base.proofs.Cases.{on_if}
-use Rattle.ccr_law_base.proofs.Lists.{some_equal}
+use Rattle.ccr_law_base.proofs.Lists.{some_equal, All-in}
 use Rattle.ccr_law_stores.specs.TrueStores.{one, times}
 
 pub times-append : (n : ℕ) (xs ys : List Operation) → times n (xs ++ ys) ≡ times n xs + times n ys
@@ -78,11 +78,6 @@ count_is n (x ∷ xs) =
     same false = refl
 
 -- ---- members
-
-pub All-in : {X : Type 0} (P : X → Type 0) (xs : List X) (x : X) → AllByRecursion P xs → IsIn xs x → P x
-All-in P [] x all there = absurd there
-All-in P (y ∷ xs) x all (inl e) = subst P e all.0
-All-in P (y ∷ xs) x all (inr there) = All-in P xs x all.1 there
 
 pub in-append_front : {X : Type 0} (xs ys : List X) (x : X) → IsIn xs x → IsIn (xs ++ ys) x
 in-append_front [] ys x there = absurd there

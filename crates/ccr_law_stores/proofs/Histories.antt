@@ -13,9 +13,9 @@ use Rattle.ccr_model.specs.FrameFacts.{IsCommitted}
 use Rattle.ccr_model.specs.Given.{IsAmong, front_of}
 use Rattle.ccr_model.specs.Past.{Line}
 use Rattle.ccr_law_core.specs.Cores.{PrimaryOk}
-use Rattle.ccr_law_base.proofs.Lists.{All-weaker, All-both, All-filter, All-filter_test, some_equal}
+use Rattle.ccr_law_base.proofs.Lists.{All-weaker, All-both, All-filter, All-filter_test, some_equal, All-in}
 use Rattle.ccr_law_stores.specs.TrueStores.{times, StoreOk, IsTrueStore, AreNumbered, IsTrueHistory, ShowsLine}
-use Rattle.ccr_law_stores.proofs.Counting.{times-filter, count_is, has-same, All-in}
+use Rattle.ccr_law_stores.proofs.Counting.{times-filter, count_is, has-same}
 use Rattle.ccr_law_stores.proofs.Holding.{in_parts, in-files, append_none}
 use Rattle.ccr_law_stores.proofs.Keeping.{not_missed-above, store-above}
 use Rattle.ccr_law_stores.proofs.Views.{Held, store-shows}

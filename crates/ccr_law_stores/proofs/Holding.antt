@@ -9,7 +9,7 @@ use Rattle.ccr_op.specs.Operation.{Operation}
 use Rattle.ccr_model.specs.Operations.{with_op, with_ops, ascending}
 use Rattle.ccr_model.specs.Stores.{Store, held, stored, stored_all, one_part, flushed, sifted, files_below}
 use Rattle.ccr_law_base.proofs.Cases.{on_if}
-use Rattle.ccr_law_base.proofs.Lists.{All-append, All-append_front, All-append_back}
+use Rattle.ccr_law_base.proofs.Lists.{All-append, All-append_front, All-append_back, All-with_ops, All-with_op}
 use Rattle.ccr_law_stores.specs.TrueStores.{one, times}
 use Rattle.ccr_law_stores.proofs.Counting.{times-append}
 
@@ -26,21 +26,12 @@ times-with_op n op (x ∷ xs) =
     on_if (λ (ys : List Operation). times n ys ≡ one (op.seq == n) + (one (x.seq == n) + times n xs)) (nat_lt op.seq x.seq) (op ∷ x ∷ xs) (x ∷ with_op op xs)
     (λ is. refl) (λ isnt. omega arith)
 
-pub All-with_op : (P : Operation → Type 0) (op : Operation) (xs : List Operation) → P op → AllByRecursion P xs → AllByRecursion P (with_op op xs)
-All-with_op P op [] new all = (new, tt)
-All-with_op P op (x ∷ xs) new all =
-    on_if (AllByRecursion P) (nat_lt op.seq x.seq) (op ∷ x ∷ xs) (x ∷ with_op op xs) (λ is. (new, all)) (λ isnt. (all.0, All-with_op P op xs new all.1))
-
 pub times-with_ops : (n : ℕ) (more xs : List Operation) → times n (with_ops more xs) ≡ times n more + times n xs
 times-with_ops n [] xs = omega arith
 times-with_ops n (op ∷ more) xs =
     let rest : times n (with_ops more (with_op op xs)) ≡ times n more + times n (with_op op xs) = times-with_ops n more (with_op op xs) in
     let first : times n (with_op op xs) ≡ one (op.seq == n) + times n xs = times-with_op n op xs in
     rest ∙ omega arith
-
-pub All-with_ops : (P : Operation → Type 0) (more xs : List Operation) → AllByRecursion P more → AllByRecursion P xs → AllByRecursion P (with_ops more xs)
-All-with_ops P [] xs news all = all
-All-with_ops P (op ∷ more) xs news all = All-with_ops P more (with_op op xs) news.1 (All-with_op P op xs news.0 all)
 
 pub times-ascending : (n : ℕ) (xs : List Operation) → times n (ascending xs) ≡ times n xs
 times-ascending n xs = times-with_ops n xs [] ∙ omega arith

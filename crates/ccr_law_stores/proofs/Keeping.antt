@@ -8,9 +8,9 @@ use Rattle.ccr_op.specs.declared.operation.Kind.TheVariants.{Index, Delete, NoOp
 use Rattle.ccr_model.specs.Operations.{has_number, op_at}
 use Rattle.ccr_model.specs.Stores.{Store, held, stored, flushed}
 use Rattle.ccr_model.specs.Given.{IsAmong, or_else, gaining}
-use Rattle.ccr_law_base.proofs.Lists.{All-weaker}
+use Rattle.ccr_law_base.proofs.Lists.{All-weaker, All-in}
 use Rattle.ccr_law_stores.specs.TrueStores.{Passed, IsNotMissed, one, times, StoreOk, AreNumbered}
-use Rattle.ccr_law_stores.proofs.Counting.{has-same, times_none, times_some, has_by_times, All-in, in-find, found_at}
+use Rattle.ccr_law_stores.proofs.Counting.{has-same, times_none, times_some, has_by_times, in-find, found_at}
 use Rattle.ccr_law_stores.proofs.Holding.{times-stored, All-stored, held-flushed}
 
 pub below_or : (P : Type 0) (a b : ℕ) → (a < b → P) → (b ≤ a → P) → P

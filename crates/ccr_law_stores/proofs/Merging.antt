@@ -1,10 +1,7 @@
 -- A merge drops only what isn't missed.
 use Rattle.std.specs.List.{AllByRecursion, list_any}
-use Rattle.std.specs.Option.{option_map_or}
-use Rattle.std.specs.Str.{bytes_eq}
-use Rattle.std.proofs.Common.{◌≡◌, ℕ, ◌+◌, ◌-◌, ◌<◌, ◌≤◌, ◌==◌, ◌&&◌, ◌||◌, ◌⊎◌, inl, inr, min, Bool, true, false, not, nat_lt, if◌then◌else◌, Option, Some, None, List, [], ◌∷◌, ◌++◌, refl, sym, ◌∙◌, ap, subst, arith}
+use Rattle.std.proofs.Common.{◌≡◌, ℕ, ◌+◌, ◌-◌, ◌<◌, ◌≤◌, ◌==◌, ◌&&◌, ◌||◌, ◌⊎◌, inl, inr, min, Bool, true, false, not, nat_lt, if◌then◌else◌, Option, Some, List, [], ◌∷◌, ◌++◌, refl, sym, ◌∙◌, ap, subst, arith}
 use Rattle.std.proofs.lemmas.Bool.Decides.{nat_tests}
-use Rattle.std.proofs.lemmas.Slice.Eq.{bytes_eq-Decides}
 use Rattle.ccr_lease.specs.declared.retention.Lease.{Lease}
 use Rattle.ccr_op.specs.Operation.{Operation, id_of}
 use Rattle.ccr_op.specs.declared.operation.Kind.{Kind}
@@ -16,19 +13,15 @@ use Rattle.ccr_model.specs.CopyRows.{risen_floor, merge_bound, after_merge}
 use Rattle.ccr_model.specs.Answers.{IsIn}
 use Rattle.ccr_model.specs.Given.{IsAmong}
 use Rattle.ccr_law_base.proofs.Cases.{on_if}
-use Rattle.ccr_law_base.proofs.Lists.{All-append, All-append_front, All-append_back, All-filter, some_equal}
+use Rattle.ccr_law_base.proofs.Lists.{All-append, All-append_front, All-append_back, All-filter, some_equal, All-in, about_id, id_about}
 use Rattle.ccr_law_stores.specs.TrueStores.{Passed, IsLeast, IsNotMissed, times, StoreOk, IsTrueStore}
-use Rattle.ccr_law_stores.proofs.Counting.{times-append, times-filter, times_none, times_some, has_by_times, none_by_times, All-in, in-given}
+use Rattle.ccr_law_stores.proofs.Counting.{times-append, times-filter, times_none, times_some, has_by_times, none_by_times, in-given}
 use Rattle.ccr_law_stores.proofs.Holding.{in_parts}
 use Rattle.ccr_law_stores.proofs.Joining.{others_at, times-picked, times-joined, All-picked, All-joined}
 use Rattle.ccr_law_stores.proofs.Keeping.{not_missed-fewer, store-same, store-floors}
+use Rattle.std.proofs.lemmas.Bool.{and_parts}
 
 -- ---- what the tests of a merge say
-
-pub and_both : (a b : Bool) → (a && b) ≡ true → (a ≡ true) × (b ≡ true)
-and_both true true is = (refl, refl)
-and_both true false is = cc
-and_both false b is = cc
 
 pub any-in : {X : Type 0} (test : X → Bool) (xs : List X) → list_any test xs ≡ true → (x : X) × IsIn xs x × (test x ≡ true)
 any-in test [] is = cc
@@ -46,21 +39,13 @@ any_none test (x ∷ xs) out =
       | false ↦ λ isnt none. (isnt, any_none test xs none)
     ]) refl out
 
-pub about_id : (id : List ℕ) (o : Option (List ℕ)) → option_map_or (λ own. bytes_eq own id) o false ≡ true → o ≡ Some id
-about_id id None is = cc
-about_id id (Some own) is = ap (λ (xs : List ℕ). Some xs) ((bytes_eq-Decides own id).0 is)
-
-pub id_about : (id : List ℕ) (o : Option (List ℕ)) → o ≡ Some id → option_map_or (λ own. bytes_eq own id) o false ≡ true
-id_about id None is = cc
-id_about id (Some own) is = (bytes_eq-Decides own id).1 (some_equal own id is)
-
 pub passed_by : (ops : ℕ → Option Operation) (xs : List Operation) (id : List ℕ) (op : Operation) (count : ℕ) → AllByRecursion (IsAmong ops) xs
     → is_passed id op count xs ≡ true → Passed ops count id op.seq
 passed_by ops xs id op count all is =
     let at : (x : Operation) × IsIn xs x × ((is_about id x && nat_lt op.seq x.seq && nat_lt x.seq count) ≡ true)
     = any-in (λ (x : Operation). is_about id x && nat_lt op.seq x.seq && nat_lt x.seq count) xs is in
-    let outer : ((is_about id at.0 && nat_lt op.seq at.0.seq) ≡ true) × (nat_lt at.0.seq count ≡ true) = and_both (is_about id at.0 && nat_lt op.seq at.0.seq) (nat_lt at.0.seq count) at.2 in
-    let inner : (is_about id at.0 ≡ true) × (nat_lt op.seq at.0.seq ≡ true) = and_both (is_about id at.0) (nat_lt op.seq at.0.seq) outer.0 in
+    let outer : ((is_about id at.0 && nat_lt op.seq at.0.seq) ≡ true) × (nat_lt at.0.seq count ≡ true) = and_parts (is_about id at.0 && nat_lt op.seq at.0.seq) (nat_lt at.0.seq count) at.2 in
+    let inner : (is_about id at.0 ≡ true) × (nat_lt op.seq at.0.seq ≡ true) = and_parts (is_about id at.0) (nat_lt op.seq at.0.seq) outer.0 in
     record {
       op = at.0;
       given = All-in (IsAmong ops) xs at.0 all at.1;
@@ -125,7 +110,7 @@ without-few m n xs there = has_by_times xs n (omega (arith, times_some (without_
 pub store-drops_one : (ops : ℕ → Option Operation) (restored : ℕ) (xs : List Operation) (floor commit count bound : ℕ) (op : Operation) → ops op.seq ≡ Some op → bound ≤ floor
     → is_droppable bound count xs op ≡ true → StoreOk ops restored xs floor commit count → StoreOk ops restored (without_number op.seq xs) floor commit count
 store-drops_one ops restored xs floor commit count bound op given low is ok =
-    let both : (nat_lt op.seq bound ≡ true) × (drops_kind count xs op op.kind ≡ true) = and_both (nat_lt op.seq bound) (drops_kind count xs op op.kind) is in
+    let both : (nat_lt op.seq bound ≡ true) × (drops_kind count xs op op.kind ≡ true) = and_parts (nat_lt op.seq bound) (drops_kind count xs op op.kind) is in
     record {
       low = ok.low;
       since = ok.since;

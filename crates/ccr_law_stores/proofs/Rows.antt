@@ -25,12 +25,13 @@ use Rattle.ccr_law_base.proofs.Lists.{All-weaker, All-both, All-push, All-map, A
 use Rattle.ccr_law_core.proofs.Replicas.{same_number, number_itself, gave-same, gave-other, given-aside, replaced-alone, others-without}
 use Rattle.ccr_law_core.proofs.Changes.{some-within}
 use Rattle.ccr_law_core.proofs.Sets.{or_false}
-use Rattle.ccr_law_core.proofs.Rows.{at_copies, at_copies_settling, not_false, primary_has, Found, found_in, filled_is}
+use Rattle.ccr_law_core.proofs.Rows.{at_copies, at_copies_settling, primary_has, Found, found_in, filled_is}
 use Rattle.ccr_law_stores.specs.TrueStores.{IsTrueStore, IsSound, AreNumbered, AreTrueStores, AreTrueStoresOf, HasTrueStores}
 use Rattle.ccr_law_stores.proofs.Keeping.{below_or}
 use Rattle.ccr_law_stores.proofs.Changes.{held-op, store-resynced}
 use Rattle.ccr_law_stores.proofs.Sorting.{sorted-stored_all, sorted-sifted}
 use Rattle.ccr_law_stores.proofs.Sound.{sound-takes_found, sound-takes, sound-flushes, sound-knows, sound-plugged, sound-merges}
+use Rattle.std.proofs.lemmas.Bool.{not-false}
 
 -- the claims after an event, where this is what it comes to
 abbrev pub StoresAfter : Past → Event → Outcome State → Type 0
@@ -151,7 +152,7 @@ replicate_keeps p copy seq None is core ok = ok
 replicate_keeps p copy seq (Some r) is core ok =
     on_guards (λ (o : Outcome Copies). StoresAfter p (events.Replicate sides.Leader copy seq) (at_copies p o)) p.state.leader.copies _ _
     (λ why. ok)
-    (λ tests. replicated p.line p.given p.state.leader.copies copy seq r is core (not_false (has p.state.leader.copies.primary.seen seq) tests.1.0) ok)
+    (λ tests. replicated p.line p.given p.state.leader.copies copy seq r is core (not-false (has p.state.leader.copies.primary.seen seq) tests.1.0) ok)
   where
     replicated : (line : Line) (given : ℕ → ℕ → Option Operation) (s : Copies) (copy seq : ℕ) (r : Replica) → replica_of s copy ≡ Some r → CoreOf line given s
         → has s.primary.seen seq ≡ true → AreTrueStoresOf given s

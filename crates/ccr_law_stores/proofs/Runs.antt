@@ -12,9 +12,9 @@ use Rattle.ccr_model.specs.LeaderFrames.{read_ops}
 use Rattle.ccr_model.specs.Answers.{IsIn}
 use Rattle.ccr_model.specs.Given.{IsAmong}
 use Rattle.ccr_law_base.proofs.Cases.{on_if}
-use Rattle.ccr_law_base.proofs.Lists.{All-weaker, All-both}
+use Rattle.ccr_law_base.proofs.Lists.{All-weaker, All-both, All-in}
 use Rattle.ccr_law_stores.specs.TrueStores.{one, times, IsTrueStore, Brings}
-use Rattle.ccr_law_stores.proofs.Counting.{All-in, in-find, found_at}
+use Rattle.ccr_law_stores.proofs.Counting.{in-find, found_at}
 use Rattle.ccr_law_stores.proofs.Keeping.{below_or}
 
 -- the run of so many numbers

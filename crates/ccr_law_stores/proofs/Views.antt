@@ -1,5 +1,5 @@
 -- What a copy holds shows the same documents as what it was given.
-use Rattle.std.proofs.Common.{◌≡◌, ℕ, zero, suc, ◌+◌, ◌<◌, ◌≤◌, inl, inr, Bool, true, false, Option, Some, is_some, List, refl, sym, ◌∙◌, ap, arith}
+use Rattle.std.proofs.Common.{◌≡◌, ℕ, zero, suc, ◌+◌, ◌<◌, ◌≤◌, inl, inr, Bool, true, Option, Some, is_some, List, sym, ◌∙◌, ap, arith}
 use Rattle.ccr_op.specs.Operation.{Operation, id_of}
 use Rattle.ccr_op.specs.declared.operation.Kind.{Kind}
 use Rattle.ccr_op.specs.declared.operation.Kind.TheVariants.{Index, Delete, NoOp}
@@ -9,18 +9,14 @@ use Rattle.ccr_model.specs.Copies.{Copy}
 use Rattle.ccr_model.specs.Answers.{IsIn, IsLive, SameView}
 use Rattle.ccr_model.specs.CopyFacts.{IsGivenBelow, HoldsEnough}
 use Rattle.ccr_model.specs.Given.{IsAmong}
-use Rattle.ccr_law_base.proofs.Lists.{some_equal}
+use Rattle.ccr_law_base.proofs.Lists.{some_equal, All-in}
 use Rattle.ccr_law_stores.specs.TrueStores.{IsNotMissed, StoreOk, IsTrueStore}
-use Rattle.ccr_law_stores.proofs.Counting.{All-in, has-in, in-given}
+use Rattle.ccr_law_stores.proofs.Counting.{has-in, in-given}
+use Rattle.ccr_law_base.proofs.Tests.{by_test}
 
 -- what is held below m
 abbrev pub Held : ℕ → List Operation → Operation → Type 0
 Held m xs op = IsIn xs op × (op.seq < m)
-
--- whether a number is held
-pub by_held : (P : Type 0) (b : Bool) → (b ≡ true → P) → (b ≡ false → P) → P
-by_held P true there out = there refl
-by_held P false there out = out refl
 
 pub id_equal : (kind : Kind) (id own : List ℕ) → id_of kind ≡ Some own → id_of kind ≡ Some id → own ≡ id
 id_equal kind id own is given = some_equal own id (sym is ∙ given)
@@ -45,7 +41,7 @@ pub greatest_given : (ops : ℕ → Option Operation) (restored : ℕ) (xs : Lis
     → (steps : ℕ) (y : Operation) → m ≤ y.seq + steps → ops y.seq ≡ Some y → y.seq < m → id_of y.kind ≡ Some id → y.seq ≤ top.seq
 greatest_given ops restored xs floor commit count m id top ok le given held shows greatest zero y near at low about = absurd (omega arith)
 greatest_given ops restored xs floor commit count m id top ok le given held shows greatest (suc steps) y near at low about =
-    by_held (y.seq ≤ top.seq) (has_number xs y.seq)
+    by_test (y.seq ≤ top.seq) (has_number xs y.seq)
     (λ is. greatest y (in-given ops xs y ok.ours at is, low) about)
     (λ isnt. not_greater ops (has_number xs) count y.seq y.kind id top about given held shows
     (λ z own names above below. greatest_given ops restored xs floor commit count m id top ok le given held shows greatest steps z (omega arith) own (omega arith) names)
@@ -76,7 +72,7 @@ store-shows ops restored xs floor commit count m le ok id body = (
   (λ (live : IsLive (IsGivenBelow m ops) id body). record {
     op = live.op;
     is_in = (
-      by_held (IsIn xs live.op) (has_number xs live.op.seq)
+      by_test (IsIn xs live.op) (has_number xs live.op.seq)
           (λ is. in-given ops xs live.op ok.ours live.is_in.0 is)
           (λ isnt. absurd (live_held ops restored xs floor commit count m id body live.op live.op.kind le live.puts live.greatest (ok.covered live.op.seq live.op live.is_in.0 isnt))),
       live.is_in.1,

@@ -14,10 +14,10 @@ use Rattle.ccr_model.specs.Past.{Line, WrittenBatch}
 use Rattle.ccr_model.specs.FrameFacts.{IsCommitted}
 use Rattle.ccr_model.specs.TaskFacts.{times_at, times_in, is_in_read}
 use Rattle.ccr_law_base.proofs.Cases.{on_if}
-use Rattle.ccr_law_base.proofs.Lists.{All-append, All-append_back, All-append_front, All-filter, All-find, All-weaker, All-without_read}
+use Rattle.ccr_law_base.proofs.Lists.{All-append, All-append_back, All-append_front, All-filter, All-find, All-weaker, All-without_read, All-with_ops, length-filter-le}
 use Rattle.ccr_law_tasks.specs.GoodTask.{IsGoodRead, HasRoom, sent_count, largest_committed, IsSoundTask, IsTrueReply}
-use Rattle.ccr_law_tasks.proofs.Sums.{one_if, sum-filter-le, length-filter-le}
-use Rattle.ccr_law_tasks.proofs.Operations.{one_in, bytes-sum, times-with_ops, length-with_ops, bytes-with_ops, all-with_ops, run-times, run-below, run-front, run-end}
+use Rattle.ccr_law_tasks.proofs.Sums.{one_if, sum-filter-le}
+use Rattle.ccr_law_tasks.proofs.Operations.{one_in, bytes-sum, times-with_ops, length-with_ops, bytes-with_ops, run-times, run-below, run-front, run-end}
 use Rattle.ccr_law_tasks.proofs.ReadLists.{IsPlaced, placed, length-changed, length-without, count-placed-changed, count-placed-without}
 use Rattle.ccr_law_tasks.proofs.Lines.{size-committed}
 
@@ -217,6 +217,6 @@ reply-sound line begun_at written t r request from global ops true_reply s =
           goal;
       room = subst (λ (k : ℕ). HasRoom t.params.max_write_buffer_count t.params.max_outstanding_read_requests most (sent_count (reads_after r ops t.reads)) k) (omega arith) room;
       space = subst (λ (k : ℕ). HasRoom t.params.max_write_buffer_size t.params.max_outstanding_read_requests x (sent_count (reads_after r ops t.reads)) k) (omega arith) space;
-      buffer = all-with_ops (IsCommitted line) (kept_of t r ops) t.buffer kept.all s.buffer;
+      buffer = All-with_ops (IsCommitted line) (kept_of t r ops) t.buffer kept.all s.buffer;
       batches = s.batches;
     }

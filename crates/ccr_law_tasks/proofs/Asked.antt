@@ -2,7 +2,7 @@
 use Rattle.std.specs.Prelude.{nat_lt, ◌==◌, find}
 use Rattle.std.specs.List.{AllByRecursion, filter, count_by, fold}
 use Rattle.std.proofs.Common.{◌≡◌, ◌∙◌, ◌⊎◌, inl, inr, ⊎_elim, ℕ, ◌+◌, ◌-◌, ◌≤◌, ◌<◌, min, zero, suc, Bool, true, false, if◌then◌else◌, ◌&&◌, List, [], ◌∷◌, ◌++◌, length, Option, Some, None, refl, sym, ap, subst, arith}
-use Rattle.std.proofs.lemmas.Bool.{ltb-true, and_parts, eqb-true}
+use Rattle.std.proofs.lemmas.Bool.{ltb-true, and_parts, eqb-true, both_ways}
 use Rattle.std.proofs.lemmas.Bool.Decides.{nat_tests}
 use Rattle.ccr_op.specs.Operation.{Operation}
 use Rattle.ccr_wire.specs.Message.{Frame}
@@ -23,6 +23,7 @@ use Rattle.ccr_law_tasks.proofs.Sums.{one_if, count-cons, AreApart, apart-rest}
 use Rattle.ccr_law_tasks.proofs.Filling.{HasFullWrites, IsHalfFull, with_batches-sound, with_batches-full, sent_again-sound, with_read-sound, asks-within, fill_held-half, with_reads-half}
 use Rattle.ccr_law_tasks.proofs.Answering.{reply-sound}
 use Rattle.ccr_law_tasks.proofs.Calls.{start_task, start-sound, due_reads-sound, due_writes-sound, ended-sound}
+use Rattle.ccr_law_base.proofs.Tests.{and_false, other_turned}
 
 -- ---- finding reads
 
@@ -152,12 +153,6 @@ none-of k (x ∷ reads) none =
     let first : one_if (x.request == k) ≡ 0 = omega arith in
     (grind (arith, nat_tests), none-of k reads (omega arith))
 
-false-true : (b : Bool) → b ≡ false → b ≡ true → ⊥
-false-true b isnt is = absurd (cc)
-
-eqb-sym : (a b : ℕ) → (a == b) ≡ false → (b == a) ≡ false
-eqb-sym a b isnt = grind (arith, nat_tests)
-
 all-both : (P Q R : Read → Type 0) → ((x : Read) → P x → Q x → R x) → (xs : List Read) → AllByRecursion P xs → AllByRecursion Q xs → AllByRecursion R xs
 all-both P Q R f [] p q = tt
 all-both P Q R f (x ∷ xs) p q = (f x p.0 q.0, all-both P Q R f xs p.1 q.1)
@@ -170,9 +165,9 @@ all-match (x ∷ reads) apart =
     let all : counts x.request (x ∷ reads) ≡ one_if (x.request == x.request) + counts x.request reads = counts-cons x.request x reads in
     let most : counts x.request (x ∷ reads) ≤ 1 = apart x.request in
     let others : AllByRecursion (λ (y : Read). (y.request == x.request) ≡ false) reads = none-of x.request reads (omega arith) in (
-      (λ is. (refl, refl), All-weaker (λ (y : Read). (y.request == x.request) ≡ false) (Matches x) (λ y isnt is. absurd (false-true (y.request == x.request) isnt is)) reads others),
+      (λ is. (refl, refl), All-weaker (λ (y : Read). (y.request == x.request) ≡ false) (Matches x) (λ y isnt is. absurd (both_ways (y.request == x.request) isnt is)) reads others),
       all-both (λ (r : Read). AllByRecursion (Matches r) reads) (λ (y : Read). (y.request == x.request) ≡ false) (λ (r : Read). AllByRecursion (Matches r) (x ∷ reads))
-          (λ r rest isnt. (λ is. absurd (false-true (x.request == r.request) (eqb-sym r.request x.request isnt) is), rest))
+          (λ r rest isnt. (λ is. absurd (both_ways (x.request == r.request) (other_turned r.request x.request isnt) is), rest))
           reads (all-match reads (apart-rest (λ y. y.request) x reads apart)) others,
     )
 
@@ -259,7 +254,7 @@ read-asks line begun_at written t to asked s =
             (λ (there : find (finds q) t.reads ≡ Some now). (let was : WasSent t q now = record { read = now; sent = there; from = refl; asked = refl } in was))
             (λ (here : (finds q r ≡ true) × (r ≡ now)).
             let own : (t.next_request == q) ≡ true = (and_parts (t.next_request == q) true here.0).0 in
-            absurd (false-true (t.next_request == q) (other-number t.next_request q low) own))
+            absurd (both_ways (t.next_request == q) (other-number t.next_request q low) own))
             (find-more q t.reads r now found);
       };
       asks = (
@@ -312,7 +307,7 @@ matches-on t r other match =
     record {
       drawn = omega arith;
       reads = All-changed_read (Matches other) r.request (renumber t.next_request)
-          (λ own at is. absurd (false-true (t.next_request == other.request) (other-number t.next_request other.request low) is)) t.reads match.reads;
+          (λ own at is. absurd (both_ways (t.next_request == other.request) (other-number t.next_request other.request low) is)) t.reads match.reads;
     }
 
 again-asks : (line : Line) (begun_at : ℕ) (written : List WrittenBatch) (rs : List Read) (t : Task) → may_read t ≡ true → IsSoundTask line t begun_at written
@@ -388,10 +383,6 @@ started-asks params count epoch history follower request in_range =
     let line : Line = record { ops = []; cut = 0 } in
     (fill-asks line count [] (start_task params count epoch history follower request) (start-sound line params count epoch history follower request [] in_range refl)).asks
 
-not-sent : (b : Bool) → (b && false) ≡ false
-not-sent true = refl
-not-sent false = refl
-
 reply-continues : (line : Line) (begun_at : ℕ) (written : List WrittenBatch) (t : Task) (r : Read) (global : ℕ) (ops : List Operation) → IsSoundTask line t begun_at written → Continues t (after_reply t r global ops)
 reply-continues line begun_at written t r global ops s =
     let rest : ℕ = rest_from r ops in
@@ -405,7 +396,7 @@ reply-continues line begun_at written t r global ops s =
           (changed_read r.request (λ own. record own { from = rest; asked = r.to - rest; progress = held_back }) t.reads) (without_read r.request t.reads)
           (λ is there. record {
             read = now;
-            sent = find-changed q r.request (λ own. record own { from = rest; asked = r.to - rest; progress = held_back }) (λ x. not-sent (x.request == q)) t.reads now s.reads.apart there;
+            sent = find-changed q r.request (λ own. record own { from = rest; asked = r.to - rest; progress = held_back }) (λ x. and_false (x.request == q)) t.reads now s.reads.apart there;
             from = refl;
             asked = refl;
           })
@@ -421,7 +412,7 @@ read_lost-continues line begun_at written t time r s = record {
   drawn = omega arith;
   old = λ q now low found. record {
     read = now;
-    sent = find-changed q r.request (λ own. record own { progress = waits_after t time }) (λ x. not-sent (x.request == q)) t.reads now s.reads.apart found;
+    sent = find-changed q r.request (λ own. record own { progress = waits_after t time }) (λ x. and_false (x.request == q)) t.reads now s.reads.apart found;
     from = refl;
     asked = refl;
   };

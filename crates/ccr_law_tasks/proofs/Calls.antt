@@ -1,7 +1,7 @@
 -- The functions of a task keep what holds of it: start, replies, losses, ended writes, retries, stops, drawn numbers, and a later line.
 use Rattle.std.specs.Prelude.{nat_lt, ◌==◌}
 use Rattle.std.specs.List.{AllByRecursion, filter, count_by}
-use Rattle.std.proofs.Common.{◌≡◌, ◌∙◌, ◌⊎◌, ℕ, ◌+◌, ◌-◌, ◌*◌, ◌≤◌, ◌<◌, max, Bool, true, false, if◌then◌else◌, ◌&&◌, List, [], ◌∷◌, ◌++◌, length, map, Some, refl, sym, ap, subst, arith}
+use Rattle.std.proofs.Common.{◌≡◌, ◌∙◌, ◌⊎◌, ℕ, ◌+◌, ◌-◌, ◌*◌, ◌≤◌, ◌<◌, max, Bool, false, if◌then◌else◌, ◌&&◌, List, [], ◌∷◌, ◌++◌, length, map, Some, refl, sym, ap, subst, arith}
 use Rattle.std.proofs.lemmas.Bool.Decides.{nat_tests}
 use Rattle.ccr_op.specs.Operation.{Operation}
 use Rattle.ccr_journal.specs.Params.{AreInRange}
@@ -23,6 +23,7 @@ use Rattle.ccr_law_tasks.proofs.SameEpoch.{fill-epoch}
 use Rattle.ccr_law_tasks.proofs.Filling.{all-sent-again, fill-done, filled-good}
 use Rattle.ccr_law_tasks.proofs.Answering.{reply-sound}
 use Rattle.ccr_law_tasks.proofs.Lines.{committed-later, largest-later}
+use Rattle.std.proofs.lemmas.Bool.{both_ways}
 
 -- ---- start
 
@@ -306,9 +307,6 @@ write_ended-good line begun_at written t number w sent good =
 
 -- ---- stops
 
-both-ways : (b : Bool) → b ≡ false → b ≡ true → ⊥
-both-ways b isnt is = absurd (cc)
-
 pub stopped-good : (line : Line) (begun_at : ℕ) (written : List WrittenBatch) (t : Task) (phase : Phase) → is_active phase ≡ false
     → IsGoodTask line t begun_at written → IsGoodTask line (stopped phase t) begun_at written
 stopped-good line begun_at written t phase isnt good = record {
@@ -317,13 +315,13 @@ stopped-good line begun_at written t phase isnt good = record {
     begun = good.sound.begun;
     reads = record { all = tt; apart = λ k. omega arith; few = omega arith };
     writes = good.sound.writes;
-    places = λ active. absurd (both-ways (is_active phase) isnt active);
+    places = λ active. absurd (both_ways (is_active phase) isnt active);
     room = omega arith;
     space = omega arith;
     buffer = tt;
     batches = good.sound.batches;
   };
-  saturated = λ active. absurd (both-ways (is_active phase) isnt active);
+  saturated = λ active. absurd (both_ways (is_active phase) isnt active);
 }
 
 -- a task takes a phase that isn't active
@@ -335,13 +333,13 @@ rested-good line begun_at written t phase isnt good = record {
     begun = good.sound.begun;
     reads = good.sound.reads;
     writes = good.sound.writes;
-    places = λ active. absurd (both-ways (is_active phase) isnt active);
+    places = λ active. absurd (both_ways (is_active phase) isnt active);
     room = good.sound.room;
     space = good.sound.space;
     buffer = good.sound.buffer;
     batches = good.sound.batches;
   };
-  saturated = λ active. absurd (both-ways (is_active phase) isnt active);
+  saturated = λ active. absurd (both_ways (is_active phase) isnt active);
 }
 
 -- the retries don't matter

@@ -8,6 +8,7 @@ use Rattle.ccr_model.specs.Operations.{is_empty, size_of, front_within, cut_of}
 use Rattle.ccr_model.specs.Tasks.{bytes_of}
 use Rattle.ccr_model.specs.TaskFacts.{IsBoundedBatch}
 use Rattle.ccr_law_base.proofs.Cases.{on_if}
+use Rattle.ccr_law_base.proofs.Lists.{some_length}
 
 front-splits : (max_ops max_bytes : ℕ) (ops : List Operation)
     → front_within max_ops max_bytes ops ++ drop (length (front_within max_ops max_bytes ops)) ops ≡ ops
@@ -53,15 +54,11 @@ cut-bounded max_ops max_bytes (op ∷ ops) some =
     on_if (λ (cut : List Operation). IsBoundedBatch max_ops max_bytes cut) (is_empty front) (op ∷ []) front
     (λ is. record { number = some; size = inr refl }) (λ isnt. record { number = within.0; size = inl within.1 })
 
-some-of : (ops : List Operation) → is_empty ops ≡ false → 1 ≤ length ops
-some-of [] isnt = absurd (cc)
-some-of (op ∷ ops) isnt = omega arith
-
 pub cut-some : (max_ops max_bytes : ℕ) (ops : List Operation) → is_empty ops ≡ false → 1 ≤ length (cut_of max_ops max_bytes ops)
 cut-some max_ops max_bytes [] some = absurd (cc)
 cut-some max_ops max_bytes (op ∷ ops) some =
     let front : List Operation = front_within max_ops max_bytes (op ∷ ops) in
-    on_if (λ (cut : List Operation). 1 ≤ length cut) (is_empty front) (op ∷ []) front (λ is. omega arith) (λ isnt. some-of front isnt)
+    on_if (λ (cut : List Operation). 1 ≤ length cut) (is_empty front) (op ∷ []) front (λ is. omega arith) (λ isnt. some_length front isnt)
 
 pub none-of : {X : Type 0} (xs : List X) → is_empty xs ≡ true → xs ≡ []
 none-of [] is = refl

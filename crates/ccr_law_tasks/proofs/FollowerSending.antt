@@ -28,7 +28,7 @@ use Rattle.ccr_law_tasks.proofs.Sending.{AreRuns, add_copy-sends}
 abbrev Quietly : {S : Type 0} → Sending S → Type 0
 Quietly done = AreRuns done.sent
 
-joined : (xs ys : List Frame) → AreRuns xs → AreRuns ys → AreRuns (xs ++ ys)
+pub joined : (xs ys : List Frame) → AreRuns xs → AreRuns ys → AreRuns (xs ++ ys)
 joined xs ys a b = All-append (λ (m : Frame). IsRunOf m.content) xs ys a b
 
 -- ---- the task

@@ -1,7 +1,7 @@
 -- What a task asks for stays at or above a number.
 use Rattle.std.specs.Prelude.{nat_lt, ◌==◌}
 use Rattle.std.specs.List.{AllByRecursion, filter}
-use Rattle.std.proofs.Common.{◌≡◌, ℕ, ◌+◌, ◌-◌, ◌≤◌, ◌<◌, min, max, zero, suc, ◌&&◌, List, [], ◌∷◌, length, Some, arith}
+use Rattle.std.proofs.Common.{◌≡◌, ℕ, ◌+◌, ◌-◌, ◌≤◌, ◌<◌, min, zero, suc, ◌&&◌, List, [], ◌∷◌, length, Some, arith}
 use Rattle.std.proofs.lemmas.Bool.{ltb-true, and_parts}
 use Rattle.ccr_op.specs.Operation.{Operation}
 use Rattle.ccr_journal.specs.declared.params.ParamValues.{ParamValues}
@@ -11,7 +11,7 @@ use Rattle.ccr_model.specs.Requests.{Sending, quiet, followed_by, on_its_way, he
 use Rattle.ccr_model.specs.Tasks.{Task, Read, is_active, may_read, has_budget, is_held, changed_read, without_read, sent_again, all_sent_again, with_batch, with_batches, fill_writes, fill_held, with_read, asks, next_read, with_reads, fill_reads, fill_peek, fill, filled_if_active, started, read_sent, end_of_ops, rest_from, after_reply, in_order_of_request, waits_after, without_write, due_reads_sent, due_writes_sent, ticked, least_from}
 use Rattle.ccr_model.specs.Past.{Line, WrittenBatch}
 use Rattle.ccr_law_base.proofs.Cases.{on_if}
-use Rattle.ccr_law_base.proofs.Lists.{All-append, All-changed_read, All-find, All-weaker, All-without_read}
+use Rattle.ccr_law_base.proofs.Lists.{All-append, All-changed_read, All-find, All-weaker, All-without_read, end-up}
 use Rattle.ccr_law_tasks.specs.GoodTask.{IsGoodRead, IsGoodTask}
 use Rattle.ccr_law_tasks.specs.FromOn.{IsFromOn, StaysFromOn}
 
@@ -87,10 +87,6 @@ started-from n params count epoch history follower request low = fill-from n (re
   next_write = 0;
   writes = [];
 }) (record { next = low; reads = tt })
-
-end-up : (ops : List Operation) (n : ℕ) → n ≤ end_of_ops ops n
-end-up [] n = omega arith
-end-up (op ∷ ops) n = let rest : max n (op.seq + 1) ≤ end_of_ops ops (max n (op.seq + 1)) = end-up ops (max n (op.seq + 1)) in omega arith
 
 pub reply-from : (n : ℕ) (t : Task) (r : Read) (request global : ℕ) (ops : List Operation) → read_sent t request ≡ Some r → IsFromOn n t → IsFromOn n (filled_if_active (after_reply t r global ops)).next
 reply-from n t r request global ops sent from =

@@ -1,5 +1,5 @@
 -- Lemmas on lists of operations: a list with more operations, and a run of numbers.
-use Rattle.std.specs.List.{AllByRecursion, filter, sum_by}
+use Rattle.std.specs.List.{filter, sum_by}
 use Rattle.std.proofs.Common.{◌≡◌, ℕ, ◌+◌, ◌-◌, ◌≤◌, min, max, ◌&&◌, List, [], ◌∷◌, ◌++◌, length, refl, arith}
 use Rattle.std.specs.Prelude.{nat_lt, nat_le, ◌==◌}
 use Rattle.std.proofs.lemmas.Bool.Decides.{nat_tests}
@@ -56,16 +56,6 @@ bytes-with_ops more ops =
     let m : bytes_of more ≡ sum_by size_of more = bytes-sum more in
     let o : bytes_of ops ≡ sum_by size_of ops = bytes-sum ops in
     omega arith
-
-pub all-with_op : (P : Operation → Type 0) (op : Operation) (ops : List Operation) → P op → AllByRecursion P ops → AllByRecursion P (with_op op ops)
-all-with_op P op [] p a = (p, tt)
-all-with_op P op (x ∷ xs) p a =
-    on_if (λ (ys : List Operation). AllByRecursion P ys) (nat_lt op.seq x.seq) (op ∷ x ∷ xs) (x ∷ with_op op xs)
-    (λ is. (p, a)) (λ isnt. (a.0, all-with_op P op xs p a.1))
-
-pub all-with_ops : (P : Operation → Type 0) (more ops : List Operation) → AllByRecursion P more → AllByRecursion P ops → AllByRecursion P (with_ops more ops)
-all-with_ops P [] ops b a = a
-all-with_ops P (op ∷ more) ops b a = all-with_ops P more (with_op op ops) b.1 (all-with_op P op ops b.0 a)
 
 -- ---- runs
 

@@ -1,7 +1,6 @@
 -- Every event keeps that the replies to reads in flight have consecutive numbers.
 use Rattle.std.specs.Prelude.{nat_le, not, slice_get, remove}
-use Rattle.std.specs.List.{AllByRecursion}
-use Rattle.std.proofs.Common.{ℕ, zero, suc, Bool, List, [], ◌∷◌, ◌++◌, length, take, drop, Option, Some, None}
+use Rattle.std.proofs.Common.{ℕ, suc, Bool, List, [], ◌∷◌, length, take, drop, Option, Some, None}
 use Rattle.ccr_wire.specs.Message.{Frame, kind_of_content}
 use Rattle.ccr_query.specs.Queries.{Tree}
 use Rattle.ccr_query.specs.declared.sorting.SortKey.{SortKey}
@@ -28,10 +27,10 @@ use Rattle.ccr_law_base.proofs.Cases.{on_if, on_guards}
 use Rattle.ccr_model.specs.Operations.{live}
 use Rattle.ccr_model.specs.Stores.{held}
 use Rattle.ccr_law_base.specs.Events.{past_by}
-use Rattle.ccr_law_base.proofs.Lists.{All-append}
+use Rattle.ccr_law_base.proofs.Lists.{All-take, All-drop}
 use Rattle.ccr_law_tasks.specs.GoodFollowers.{IsRunOf, BringRuns}
 use Rattle.ccr_law_tasks.proofs.Sending.{AreRuns, wake-sends, leader-receives, settling-sends, write-sends, replicate-sends, ack-sends, sync-sends, fail_copy-sends, add_copy-sends, flush-sends, merge-sends, follower_promote-sends, resync-sends, leader_promote-sends, leader_fail_copy-sends, clock-sends, expire-sends, close-sends, leader_status-sends}
-use Rattle.ccr_law_tasks.proofs.FollowerSending.{receive-sends, lose-sends, tick-sends, follower_clock-sends, lose_write-sends, take-sends, apply-sends, written-sends, renew-sends, pause-sends, resume-sends, restart-sends, unfollow-sends, follower_add_copy-sends, follower_status-sends}
+use Rattle.ccr_law_tasks.proofs.FollowerSending.{receive-sends, lose-sends, tick-sends, follower_clock-sends, lose_write-sends, take-sends, apply-sends, written-sends, renew-sends, pause-sends, resume-sends, restart-sends, unfollow-sends, follower_add_copy-sends, follower_status-sends, joined}
 
 -- the messages in flight after an outcome
 abbrev RunsAt : Outcome State → Type 0
@@ -40,22 +39,8 @@ RunsAt o = AreRuns o.next.flight
 abbrev flying : State → List Frame → State
 flying s flight = record s { flight = flight }
 
-joined : (flight sent : List Frame) → AreRuns flight → AreRuns sent → AreRuns (flight ++ sent)
-joined flight sent a b = All-append (λ (m : Frame). IsRunOf m.content) flight sent a b
-
-all-take : {X : Type 0} (P : X → Type 0) (i : ℕ) (xs : List X) → AllByRecursion P xs → AllByRecursion P (take i xs)
-all-take P zero [] a = tt
-all-take P zero (x ∷ xs) a = tt
-all-take P (suc i) [] a = tt
-all-take P (suc i) (x ∷ xs) a = (a.0, all-take P i xs a.1)
-
-all-drop : {X : Type 0} (P : X → Type 0) (i : ℕ) (xs : List X) → AllByRecursion P xs → AllByRecursion P (drop i xs)
-all-drop P zero xs a = a
-all-drop P (suc i) [] a = tt
-all-drop P (suc i) (x ∷ xs) a = all-drop P i xs a.1
-
 removed : (flight : List Frame) (at : ℕ) → AreRuns flight → AreRuns (remove flight at)
-removed flight at runs = joined (take at flight) (drop (suc at) flight) (all-take (λ (m : Frame). IsRunOf m.content) at flight runs) (all-drop (λ (m : Frame). IsRunOf m.content) (suc at) flight runs)
+removed flight at runs = joined (take at flight) (drop (suc at) flight) (All-take (λ (m : Frame). IsRunOf m.content) at flight runs) (All-drop (λ (m : Frame). IsRunOf m.content) (suc at) flight runs)
 
 by-leader : (s : State) (o : Outcome Leader) → AreRuns s.flight → AreRuns o.sent → RunsAt (at_leader s o)
 by-leader s o runs sends = joined s.flight o.sent runs sends

@@ -10,6 +10,7 @@ use Rattle.ccr_model.specs.TaskFacts.{StandsOnce, IsTrueTask, IsBounded, AsksOnc
 use Rattle.ccr_law_tasks.specs.GoodTask.{IsGoodRead, sent_count, largest_committed, IsGoodTask}
 use Rattle.ccr_law_tasks.proofs.Sums.{one_if, count-cons}
 use Rattle.ccr_law_tasks.proofs.Lines.{largest-of-line}
+use Rattle.ccr_law_base.proofs.Lists.{All-from_both}
 
 mul-le : (a b m k : ℕ) → a ≤ b → m ≤ k → a * m ≤ b * k
 mul-le a b m k low up = grind arith
@@ -59,10 +60,6 @@ each-counts whole (r ∷ reads) less = (
       omega arith),
 )
 
-all-both : {X : Type 0} (P Q R : X → Type 0) → ((x : X) → P x → Q x → R x) → (xs : List X) → AllByRecursion P xs → AllByRecursion Q xs → AllByRecursion R xs
-all-both P Q R f [] p q = tt
-all-both P Q R f (x ∷ xs) p q = (f x p.0 q.0, all-both P Q R f xs p.1 q.1)
-
 received : Task → List WrittenBatch → ℕ → ℕ
 received t written n = times_in n t.buffer + times_in n (batches_of t.writes) + times_in n (written_in t.epoch written)
 
@@ -74,7 +71,7 @@ says-once line begun_at written t active good =
     let s = good.sound in
     let places : StandsOnce t begun_at written = s.places active in
     record {
-      reads = all-both (IsGoodRead t.params.max_read_request_operation_count begun_at t.next_request t.next)
+      reads = All-from_both (IsGoodRead t.params.max_read_request_operation_count begun_at t.next_request t.next)
           (λ (r : Read). (n : ℕ) → one_if (is_in_read n r) ≤ count_by (is_in_read n) t.reads)
           (λ (r : Read). (n : ℕ) → is_in_read n r ≡ true → is_received t written n ≡ false)
           (λ r own counts n is.

@@ -25,12 +25,6 @@ length-sum {X} (x ∷ xs) =
     let rest : length xs ≡ sum_by (λ x. 1) xs = length-sum xs in
     omega arith
 
-pub length-filter-le : {X : Type 0} (test : X → Bool) (xs : List X) → length (filter test xs) ≤ length xs
-length-filter-le test [] = omega arith
-length-filter-le {X} test (x ∷ xs) =
-    let rest : length (filter test xs) ≤ length xs = length-filter-le test xs in
-    on_if (λ (ys : List X). length ys ≤ length (x ∷ xs)) (test x) (x ∷ filter test xs) (filter test xs) (λ is. omega arith) (λ isnt. omega arith)
-
 -- what one element adds to a count
 pub count-cons : {X : Type 0} (p : X → Bool) (x : X) (xs : List X) → count_by p (x ∷ xs) ≡ one_if (p x) + count_by p xs
 count-cons p x xs = sum_by-cons (λ x. one_if (p x)) x xs

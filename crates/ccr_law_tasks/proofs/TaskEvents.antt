@@ -1,9 +1,7 @@
 -- Every event keeps what holds of the followers' tasks.
 use Rattle.std.specs.Prelude.{◌==◌, nat_le, not, slice_get, remove, IfSome}
 use Rattle.std.specs.Option.{option_map, option_map_or, option_and_then}
-use Rattle.std.specs.List.{AllByRecursion}
-use Rattle.std.proofs.Common.{◌≡◌, ◌∙◌, ℕ, zero, suc, Bool, true, false, if◌then◌else◌, List, [], ◌∷◌, ◌++◌, length, Option, Some, None, refl, sym, ap, subst, arith}
-use Rattle.std.proofs.lemmas.Bool.Decides.{nat_tests}
+use Rattle.std.proofs.Common.{◌≡◌, ◌∙◌, ℕ, Bool, false, if◌then◌else◌, List, [], ◌∷◌, ◌++◌, length, Option, Some, None, refl, sym, ap, subst}
 use Rattle.ccr_op.specs.Operation.{Operation}
 use Rattle.ccr_wire.specs.Message.{Frame, kind_of_content}
 use Rattle.ccr_wire.specs.declared.content.Content.{Content}
@@ -36,12 +34,13 @@ use Rattle.ccr_model.specs.Past.{Line, Past, WrittenBatch, written_after}
 use Rattle.ccr_model.specs.Fit.{IsFitEvent}
 use Rattle.ccr_model.specs.FrameFacts.{IsCommitted, Reading, reading_in, reading_of, named_follower, BringsAsAsked, IsTrueContent, IsTrueFrame, AreTrueFrames}
 use Rattle.ccr_law_base.proofs.Cases.{on_if, on_guards}
-use Rattle.ccr_law_base.proofs.Lists.{All-weaker}
+use Rattle.ccr_law_base.proofs.Lists.{All-weaker, All-at}
 use Rattle.ccr_law_tasks.specs.GoodTask.{IsLater}
 use Rattle.ccr_law_tasks.specs.GoodFollowers.{IsGoodFollower, AreGoodFollowers, IsRunOf, BringRuns}
 use Rattle.ccr_law_tasks.proofs.Lines.{committed-later}
 use Rattle.ccr_law_tasks.proofs.TaskRows.{begun_after, RowKeeps, EndKeeps, ended_with, IsTrueAnswer, copies-row, receive-row, lose-row, tick-row, clock-row, lose_write-row, take-row, apply-row, written-row, renew-row, pause-row, resume-row, restart-row, unfollow-row, add_copy-row, status-row}
 use Rattle.ccr_law_tasks.proofs.FollowerLists.{GoodAfter, none-changed, one-changed, one-made}
+use Rattle.ccr_law_base.proofs.Tests.{itself}
 
 -- what holds of all followers after an outcome
 abbrev pub GoodAt : Past → Event → List Operation → Line → Outcome State → Type 0
@@ -77,11 +76,6 @@ by-follower p event ops next flight f row none keeps now =
     ]) refl
 
 -- ---- messages
-
-all-get : {X : Type 0} (P : X → Type 0) (xs : List X) (i : ℕ) (x : X) → AllByRecursion P xs → slice_get xs i ≡ Some x → P x
-all-get P [] i x all at = absurd (cc)
-all-get P (y ∷ xs) zero x all at = let same : y ≡ x = cc in subst P same all.0
-all-get P (y ∷ xs) (suc i) x all at = all-get P xs i x all.1 at
 
 -- the read that a follower sent under a request number
 reading-is : (s : State) (uuid : List ℕ) (request f : ℕ) (x : Follower) (t : Task) (r : Read) → follower_of s.followers uuid ≡ Some f → slice_get s.followers f ≡ Some x
@@ -127,8 +121,8 @@ unfolding deliver_row
 by-delivery p event ops next at copy keep None c none is later frames runs now = none-changed p event ops next (replies.Refused (NoFrame at)) (λ k old. none k old (replies.Refused (NoFrame at))) now
 by-delivery p event ops next at copy keep (Some m) None none is later frames runs now = none-changed p event ops next (replies.Refused (NoCopy copy)) (λ k old. none k old (replies.Refused (NoCopy copy))) now
 by-delivery p event ops next at copy keep (Some m) (Some c) none is later frames runs now =
-    let truth : IsTrueFrame p m = all-get (IsTrueFrame p) p.state.flight at m frames.flight is in
-    let run : IsRunOf m.content = all-get (λ (m : Frame). IsRunOf m.content) p.state.flight at m runs is in
+    let truth : IsTrueFrame p m = All-at (IsTrueFrame p) p.state.flight at m frames.flight is in
+    let run : IsRunOf m.content = All-at (λ (m : Frame). IsRunOf m.content) p.state.flight at m runs is in
     on_if (λ (s : State). GoodAt p event ops next (taken_by_receiver s copy m)) keep p.state (flying p.state (remove p.state.flight at))
     (λ kept. by-receiver p event ops next p.state.flight copy m none later truth run now)
     (λ left. by-receiver p event ops next (remove p.state.flight at) copy m none later truth run now)
@@ -183,13 +177,10 @@ by-follow p event ops next params copies name None none in_range now =
 
 -- ---- ended writes
 
-eqb-same : (n : ℕ) → (n == n) ≡ true
-eqb-same n = grind (arith, nat_tests)
-
 own-write : (f : ℕ) (s : Follower) (written : List WrittenBatch) (write : ℕ) (reply : Reply)
     → written_after f s written (events.Written f write) reply ≡ ended_with s written (sent_write s.work write) reply
 own-write f s written write replies.Done =
-    ap (λ (b : Bool). if b then option_map_or (λ (sent : Sent). written ++ record { epoch = s.epoch; batch = sent.write.batch } ∷ []) (sent_write s.work write) written else written) (eqb-same f)
+    ap (λ (b : Bool). if b then option_map_or (λ (sent : Sent). written ++ record { epoch = s.epoch; batch = sent.write.batch } ∷ []) (sent_write s.work write) written else written) (itself f)
 own-write f s written write _ = refl
 
 other-write : (f k : ℕ) (x : Follower) (written : List WrittenBatch) (write : ℕ) (reply : Reply) → (f == k) ≡ false

@@ -22,13 +22,14 @@ use Rattle.ccr_model.specs.Restores.{Restore, Stage, Fetch, leasing, opening, fe
 use Rattle.ccr_model.specs.Followers.{Follower, Work, restoring, replicating, bootstrapped, restored}
 use Rattle.ccr_model.specs.FollowerRows.{Sent, does, with_task, with_copies, task_of, restore_done, restore_heard, hear_read, task_heard, work_hears, follower_receive_row, task_lost, bootstrap_lost, lose_row, tick_row, follower_clock_row, sent_write, lose_write_row, take_row, new_in, applied, is_other, apply_row, lacks, write_done, written_row, lease_request, needed_from, renew_row, pause_row, is_paused, task_anew, resume_row, restart_row, unfollow_row, follower_add_copy_row, follower_status_row}
 use Rattle.ccr_model.specs.Past.{Line, WrittenBatch}
-use Rattle.ccr_law_base.proofs.Cases.{on_if, on_guards}
+use Rattle.ccr_law_base.proofs.Cases.{on_if, on_guards, task_is}
 use Rattle.ccr_law_base.proofs.Lists.{All-append, All-weaker}
 use Rattle.ccr_law_tasks.specs.GoodTask.{IsGoodTask, IsTrueReply}
 use Rattle.ccr_law_tasks.specs.GoodFollowers.{IsGoodWork, IsGoodFollower}
 use Rattle.ccr_law_tasks.proofs.WriteLists.{written-none}
 use Rattle.ccr_law_tasks.proofs.Calls.{started-good, started-epoch, reply-good, read_lost-good, write_lost-good, ticked-good, write_ended-good, stopped-good, rested-good, calm-good, drawn-good}
 use Rattle.ccr_law_tasks.proofs.SameEpoch.{filled-epoch, ticked-epoch}
+use Rattle.ccr_law_base.proofs.Tests.{itself}
 
 -- where its task began its epoch, after an event: a new epoch begins at what the primary then knows
 abbrev pub begun_after : ℕ → Follower → Follower → ℕ
@@ -38,13 +39,10 @@ begun_after begun_at old new = if new.epoch == old.epoch then begun_at else new.
 abbrev pub RowKeeps : Line → ℕ → List WrittenBatch → Follower → Outcome Follower → Type 0
 RowKeeps line begun_at written s o = IsGoodFollower line (begun_after begun_at s o.next) written o.next
 
-eqb-same : (n : ℕ) → (n == n) ≡ true
-eqb-same n = grind (arith, nat_tests)
-
 -- in the same epoch it began where it did
 pub same-begun : (begun_at : ℕ) (old new : Follower) → new.epoch ≡ old.epoch → begun_after begun_at old new ≡ begun_at
 same-begun begun_at old new same =
-    let is : (new.epoch == old.epoch) ≡ true = subst (λ (n : ℕ). (n == old.epoch) ≡ true) (sym same) (eqb-same old.epoch) in
+    let is : (new.epoch == old.epoch) ≡ true = subst (λ (n : ℕ). (n == old.epoch) ≡ true) (sym same) (itself old.epoch) in
     ap (λ (b : Bool). if b then begun_at else new.copies.primary.global) is
 
 pub same-epoch : (line : Line) (begun_at : ℕ) (written : List WrittenBatch) (old new : Follower) → new.epoch ≡ old.epoch
@@ -314,13 +312,6 @@ written-row line begun_at written s number (Some w) is good = write_done-row lin
 
 -- ---- lease requests, pauses and restarts
 
-task-of : (s : Follower) (t : Task) → task_of s.work ≡ Some t → s.work ≡ replicating t
-task-of s t =
-    (elim s.work as (λ (work : Work). s.work ≡ work → task_of work ≡ Some t → s.work ≡ replicating t) [
-      | restoring r ↦ λ is there. absurd (cc)
-      | replicating own ↦ λ is there. let same : own ≡ t = cc in is ∙ ap replicating same
-    ]) refl
-
 request-row : (line : Line) (begun_at : ℕ) (written : List WrittenBatch) (s : Follower) (t changed : Task) (content : Content) → s.work ≡ replicating t
     → IsGoodFollower line begun_at written s → IsGoodTask line changed begun_at written → changed.epoch ≡ t.epoch → RowKeeps line begun_at written s (lease_request s changed content)
 request-row line begun_at written s t changed content is good good_task same =
@@ -334,7 +325,7 @@ renew-row line begun_at written s None is good = still line begun_at written s g
 renew-row line begun_at written s (Some t) is good =
     on_guards (λ (o : Outcome Follower). RowKeeps line begun_at written s o) s ((not (is_active t.phase), NotActive) ∷ []) (lease_request s t (contents.LeaseRenew s.lease (needed_from s t)))
     (λ why. still line begun_at written s good)
-    (λ none. request-row line begun_at written s t t (contents.LeaseRenew s.lease (needed_from s t)) (task-of s t is) good (task-is line begun_at written s t (task-of s t is) good).0 refl)
+    (λ none. request-row line begun_at written s t t (contents.LeaseRenew s.lease (needed_from s t)) (task_is s t is) good (task-is line begun_at written s t (task_is s t is) good).0 refl)
 
 pub pause-row : (line : Line) (begun_at : ℕ) (written : List WrittenBatch) (s : Follower) (found : Option Task) → task_of s.work ≡ found
     → IsGoodFollower line begun_at written s → RowKeeps line begun_at written s (pause_row s found)
@@ -342,8 +333,8 @@ unfolding pause_row
 pause-row line begun_at written s None is good = still line begun_at written s good
 pause-row line begun_at written s (Some t) is good =
     on_if (λ (next : Follower). IsGoodFollower line (begun_after begun_at s next) written next) (is_active t.phase) (with_task s (stopped phases.Paused t)) s
-    (λ active. changed-task line begun_at written s t (stopped phases.Paused t) s.lease_requests (task-of s t is) good
-    (stopped-good line begun_at written t phases.Paused refl (task-is line begun_at written s t (task-of s t is) good).0) refl)
+    (λ active. changed-task line begun_at written s t (stopped phases.Paused t) s.lease_requests (task_is s t is) good
+    (stopped-good line begun_at written t phases.Paused refl (task-is line begun_at written s t (task_is s t is) good).0) refl)
     (λ isnt. still line begun_at written s good)
 
 pub resume-row : (line : Line) (begun_at : ℕ) (written : List WrittenBatch) (s : Follower) (found : Option Task)
@@ -369,8 +360,8 @@ unfollow-row line begun_at written s None is good = still line begun_at written 
 unfollow-row line begun_at written s (Some t) is good =
     on_guards (λ (o : Outcome Follower). RowKeeps line begun_at written s o) s ((is_active t.phase, NotPaused) ∷ []) (lease_request s (record t { phase = phases.Unfollowed }) (contents.LeaseRemove s.lease))
     (λ why. still line begun_at written s good)
-    (λ none. request-row line begun_at written s t (record t { phase = phases.Unfollowed }) (contents.LeaseRemove s.lease) (task-of s t is) good
-    (rested-good line begun_at written t phases.Unfollowed refl (task-is line begun_at written s t (task-of s t is) good).0) refl)
+    (λ none. request-row line begun_at written s t (record t { phase = phases.Unfollowed }) (contents.LeaseRemove s.lease) (task_is s t is) good
+    (rested-good line begun_at written t phases.Unfollowed refl (task-is line begun_at written s t (task_is s t is) good).0) refl)
 
 -- ---- copies
 
