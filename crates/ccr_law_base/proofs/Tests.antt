@@ -38,3 +38,15 @@ or_second a b isnt = (or_parts a b isnt).1
 pub or_true : (a : Bool) → (a || true) ≡ true
 or_true true = refl
 or_true false = refl
+
+pub or_first : (a b : Bool) → (a || b) ≡ false → a ≡ false
+or_first a b isnt = (or_parts a b isnt).0
+
+pub or_none : (a : Bool) → (a || false) ≡ a
+or_none true = refl
+or_none false = refl
+
+-- a test that comes out more often does so together with another
+pub and-more : (a b c : Bool) → (b ≡ true → c ≡ true) → (a && b) ≡ true → (a && c) ≡ true
+and-more true b c more is = more is
+and-more false b c more is = cc

@@ -9,12 +9,7 @@ use Rattle.ccr_model.specs.Given.{gave}
 use Rattle.ccr_law_base.proofs.Cases.{on_if}
 use Rattle.ccr_law_core.specs.Cores.{Apart}
 use Rattle.ccr_law_base.proofs.Lists.{All-weaker, All-push, All-map, All-replaced, All-without, All-changed, some_equal}
-
-pub same_number : (a b : ℕ) → (a == b) ≡ true → a ≡ b
-same_number a b is = grind (arith, nat_tests)
-
-pub number_itself : (a : ℕ) → (a == a) ≡ true
-number_itself a = grind (arith, nat_tests)
+use Rattle.std.proofs.lemmas.Bool.{eqb-true}
 
 -- ---- what a copy was given
 
@@ -45,7 +40,7 @@ replaced-alone P Q given copy ops new number made keep (r ∷ rs) apart all =
       subst (λ (o : ℕ → Option Operation). Q o new) (sym (gave-same given copy ops new.copy.number (grind (arith, nat_tests)))) made,
       given-aside P Q given copy ops keep rs
           (All-weaker (λ (x : Replica). (x.copy.number == r.copy.number) ≡ false) (λ (x : Replica). (x.copy.number == copy) ≡ false)
-          (λ x isnt. subst (λ (k : ℕ). (x.copy.number == k) ≡ false) (same_number r.copy.number copy is) isnt) rs apart.0)
+          (λ x isnt. subst (λ (k : ℕ). (x.copy.number == k) ≡ false) (eqb-true r.copy.number copy is) isnt) rs apart.0)
           all.1,
     ))
     (λ isnt. (
@@ -61,7 +56,7 @@ Apart-replaced copy new (r ∷ rs) number apart =
     on_if Apart (r.copy.number == copy) (new ∷ rs) (r ∷ replaced copy new rs)
     (λ is. (
       All-weaker (λ (x : Replica). (x.copy.number == r.copy.number) ≡ false) (λ (x : Replica). (x.copy.number == new.copy.number) ≡ false)
-          (λ x isnt. subst (λ (k : ℕ). (x.copy.number == k) ≡ false) (same_number r.copy.number copy is ∙ sym number) isnt) rs apart.0,
+          (λ x isnt. subst (λ (k : ℕ). (x.copy.number == k) ≡ false) (eqb-true r.copy.number copy is ∙ sym number) isnt) rs apart.0,
       apart.1,
     ))
     (λ isnt. (
@@ -81,7 +76,7 @@ others-without copy [] apart = tt
 others-without copy (r ∷ rs) apart =
     on_if (AllByRecursion (λ (r : Replica). (r.copy.number == copy) ≡ false)) (r.copy.number == copy) rs (r ∷ without copy rs)
     (λ is. All-weaker (λ (x : Replica). (x.copy.number == r.copy.number) ≡ false) (λ (x : Replica). (x.copy.number == copy) ≡ false)
-    (λ x isnt. subst (λ (k : ℕ). (x.copy.number == k) ≡ false) (same_number r.copy.number copy is) isnt) rs apart.0)
+    (λ x isnt. subst (λ (k : ℕ). (x.copy.number == k) ≡ false) (eqb-true r.copy.number copy is) isnt) rs apart.0)
     (λ isnt. (isnt, others-without copy rs apart.1))
 
 -- a change that keeps the numbers

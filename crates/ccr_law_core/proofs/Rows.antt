@@ -23,10 +23,11 @@ use Rattle.ccr_model.specs.Past.{Line, Past, past_with, rewritten, end_of_replic
 use Rattle.ccr_law_base.proofs.Cases.{on_if, on_guards}
 use Rattle.ccr_law_core.specs.Cores.{PrimaryOk, IsReplica, Uncounted, Core, CoreOf, IsCore}
 use Rattle.ccr_law_base.proofs.Lists.{All-weaker, All-both, All-push, All-map, All-replaced, All-without, All-find, All-changed}
-use Rattle.ccr_law_core.proofs.Replicas.{same_number, number_itself, gave-same, gave-other, given-aside, replaced-alone, Apart-replaced, Apart-without, others-without, Apart-map, Apart-push, Apart-changed, least_known-primary, least_known-each, least_known-replaced, least_known-changed}
+use Rattle.ccr_law_core.proofs.Replicas.{gave-same, gave-other, given-aside, replaced-alone, Apart-replaced, Apart-without, others-without, Apart-map, Apart-push, Apart-changed, least_known-primary, least_known-each, least_known-replaced, least_known-changed}
 use Rattle.ccr_law_core.proofs.Changes.{some-of, some-within, replica-raised, primary-longer, replica-longer, replica-takes, replica-acked, replica-knowing, primary-promoted, replica-stale, replica-resynced, replica-next, replica-new}
 use Rattle.ccr_law_core.proofs.Sets.{or_false}
-use Rattle.std.proofs.lemmas.Bool.{not-false}
+use Rattle.std.proofs.lemmas.Bool.{not-false, eqb-true}
+use Rattle.ccr_law_base.proofs.Tests.{itself}
 
 -- the claims after an event, where this is what it comes to
 abbrev pub CoreAfter : Past → Event → Outcome State → Type 0
@@ -110,7 +111,7 @@ pub found_in : (line : Line) (given : ℕ → ℕ → Option Operation) (s : Cop
 found_in line given s copy r core found =
     let both : IsReplica line s.primary.number s.next (given r.copy.number) r × ((r.copy.number == copy) ≡ true)
     = All-find (λ (x : Replica). IsReplica line s.primary.number s.next (given x.copy.number) x) (λ x. x.copy.number == copy) s.replicas r core.rest.replicas_ok found in
-    let same : r.copy.number ≡ copy = same_number r.copy.number copy both.1 in
+    let same : r.copy.number ≡ copy = eqb-true r.copy.number copy both.1 in
     record {
       number = same;
       other = subst (λ (k : ℕ). (k == s.primary.number) ≡ false) same both.0.other;
@@ -125,7 +126,7 @@ pub written : (line : Line) (given : ℕ → ℕ → Option Operation) (number :
 written line given number seen global replicas next op seq ok = record {
   old = ok.old;
   primary = subst (λ (ops : ℕ → Option Operation). PrimaryOk (record { ops = line.ops ++ op ∷ []; cut = line.cut }) ops (marked seen op.seq) global)
-      (sym (gave-same given number (gaining (given number) op.seq (Some op)) number (number_itself number)))
+      (sym (gave-same given number (gaining (given number) op.seq (Some op)) number (itself number)))
       (primary-longer line (given number) seen global op seq ok.primary);
   replicas_ok = given-aside (λ o r. IsReplica line number next o r) (λ o r. IsReplica (record { ops = line.ops ++ op ∷ []; cut = line.cut }) number next o r)
       given number (gaining (given number) op.seq (Some op))
@@ -281,7 +282,7 @@ promoted line given s copy r term core found =
     record {
       old = subst (λ (k : ℕ). k < s.next) f.number f.replica.old;
       primary = subst (λ (o : ℕ → Option Operation). PrimaryOk new o (fold {A = ℕ} {B = Numbers} marked r.copy.seen (missing_numbers r.copy.seen)) r.copy.global)
-          (sym (gave-same given copy own copy (number_itself copy)))
+          (sym (gave-same given copy own copy (itself copy)))
           (primary-promoted line s.primary.number s.next (given copy) r.copy.number r.copy.seen r.copy.global r.known r.resynced r.acked term core.rest.primary.full f.replica);
       replicas_ok = All-map (λ (x : Replica). IsReplica new copy s.next (gave given copy own x.copy.number) x) unknown (without copy s.replicas)
           (All-weaker
@@ -312,7 +313,7 @@ promote_keeps p copy (Some r) is core =
     let s = p.state.leader.copies in
     subst (λ (o : Option Replica). AfterPromotion p copy o (gave p.given copy (plugged (p.given copy) (s.term + 1) (end_of_replica o)) copy) (as_primary (s.term + 1) r.copy)) (sym is)
     (subst (λ (f : ℕ → Option Operation). AfterPromotion p copy (Some r) f (as_primary (s.term + 1) r.copy))
-    (sym (gave-same p.given copy (plugged (p.given copy) (s.term + 1) (end_of r.copy.seen)) copy (number_itself copy)))
+    (sym (gave-same p.given copy (plugged (p.given copy) (s.term + 1) (end_of r.copy.seen)) copy (itself copy)))
     (subst (λ (c : Copy). AfterPromotion p copy (Some r) (plugged (p.given copy) (s.term + 1) (end_of r.copy.seen)) (record c { leases = record c.leases { term = s.term + 1 } }))
     (sym (filled_is (s.term + 1) (missing_numbers r.copy.seen) r.copy))
     (done p.line p.given s copy r (s.term + 1) core is)))
@@ -403,7 +404,7 @@ added line given s core = record {
       (λ x ok. let less : x.copy.number < s.next = ok.old in grind (arith, nat_tests)) s.replicas core.rest.replicas_ok)
       core.rest.replicas_ok)
       (subst (λ (o : ℕ → Option Operation). IsReplica line s.primary.number (s.next + 1) o (replica_in_step (record s.primary { number = s.next }) s.primary.seen.count))
-      (sym (gave-same given s.next (given s.primary.number) s.next (number_itself s.next)))
+      (sym (gave-same given s.next (given s.primary.number) s.next (itself s.next)))
       (replica-new line (given s.primary.number) s.primary.seen s.primary.global s.primary.number s.next core.rest.old core.rest.primary));
   apart = Apart-push s.replicas (replica_in_step (record s.primary { number = s.next }) s.primary.seen.count)
       (All-weaker (λ (x : Replica). IsReplica line s.primary.number s.next (given x.copy.number) x) (λ (x : Replica). (s.next == x.copy.number) ≡ false)

@@ -11,7 +11,7 @@ use Rattle.ccr_model.specs.LeaderFrames.{chunk_of}
 use Rattle.ccr_law_base.proofs.Cases.{on_if}
 use Rattle.ccr_law_base.proofs.Lists.{All-weaker, All-push, All-filter, some_equal, All-without_ask}
 use Rattle.ccr_law_followers.specs.Fetches.{asks_for, is_part, is_covered, AskedApart, FetchOk}
-use Rattle.ccr_law_base.proofs.Tests.{or_true}
+use Rattle.ccr_law_base.proofs.Tests.{or_true, or_none}
 
 -- ---- lists of requests
 
@@ -23,11 +23,7 @@ or_end true b c = refl
 or_end false b c = refl
 
 pub any-push : {X : Type 0} (test : X → Bool) (xs : List X) (x : X) → list_any test (xs ++ x ∷ []) ≡ (list_any test xs || test x)
-any-push test [] x = last (test x)
-  where
-    last : (b : Bool) → (b || false) ≡ b
-    last true = refl
-    last false = refl
+any-push test [] x = or_none (test x)
 any-push test (y ∷ xs) x = ap (λ (b : Bool). test y || b) (any-push test xs x) ∙ or_end (test y) (list_any test xs) (test x)
 
 pub All-changed_ask : (P : ChunkAsked → Type 0) (request : ℕ) (later : Progress) → ((a : ChunkAsked) → P a → P (record a { progress = later })) → (asks : List ChunkAsked)

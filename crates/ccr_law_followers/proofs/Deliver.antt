@@ -16,7 +16,7 @@ use Rattle.ccr_model.specs.Past.{Line, Past, FollowerPast, WrittenBatch, ends_bo
 use Rattle.ccr_law_base.proofs.Cases.{on_if}
 use Rattle.ccr_law_core.specs.Cores.{IsCore}
 use Rattle.ccr_law_base.proofs.Lists.{some_equal}
-use Rattle.ccr_law_core.proofs.Replicas.{same_number, least_known-primary}
+use Rattle.ccr_law_core.proofs.Replicas.{least_known-primary}
 use Rattle.ccr_law_stores.specs.TrueStores.{IsTrueHistory}
 use Rattle.ccr_law_stores.proofs.Histories.{history-stays}
 use Rattle.ccr_law_followers.specs.TrueCopies.{FollowerOk, HasTrueCopies, FetchesTruly, IsNew, all_in}
@@ -25,6 +25,7 @@ use Rattle.ccr_law_followers.proofs.Several.{copies-restored, restored_replica}
 use Rattle.ccr_law_followers.proofs.After.{OkOf, OkAfter, Keeps, kept, unended}
 use Rattle.ccr_law_followers.proofs.Quiet.{same, Ends, Hears, receive_hears}
 use Rattle.ccr_law_followers.proofs.Join.{set_at, set_none, none_set, past_by_reply, line_by, After, extends, join}
+use Rattle.std.proofs.lemmas.Bool.{eqb-true}
 
 -- ---- the end of a bootstrap
 
@@ -99,7 +100,7 @@ follower_moves p at m flight f there named (Some x) is = record {
     by_place : (k : ℕ) (s new : Follower) → slice_get p.state.followers k ≡ Some s
         → (((f == k) ≡ true) × ((follower_receive_row x m).next ≡ new)) ⊎ (((f == k) ≡ false) × (slice_get p.state.followers k ≡ Some new)) → Keeps s new ⊎ Came p at k s new
     by_place k s new old (inl own) =
-        let e : f ≡ k = same_number f k own.0 in
+        let e : f ≡ k = eqb-true f k own.0 in
         heard k s new e (some_equal x s (sym is ∙ (ap (slice_get p.state.followers) e ∙ old))) own.1 (receive_hears x m)
     by_place k s new old (inr other) = inl (subst (Keeps s) (some_equal s new (sym old ∙ other.1)) (same s))
 

@@ -25,7 +25,6 @@ use Rattle.ccr_model.specs.FrameFacts.{AreTrueFrames, IsTrueFrame, IsTrueContent
 use Rattle.ccr_law_base.specs.Events.{past_by}
 use Rattle.ccr_law_base.proofs.Cases.{on_if, on_guards}
 use Rattle.ccr_law_base.proofs.Lists.{All-weaker, All-at, some_equal, find-front}
-use Rattle.ccr_law_core.proofs.Replicas.{same_number}
 use Rattle.ccr_law_stores.specs.TrueStores.{IsTrueHistory}
 use Rattle.ccr_law_followers.specs.TrueCopies.{FetchesTruly, all_in}
 use Rattle.ccr_law_followers.specs.Fetches.{is_part, is_covered, FetchOk, StageOk, RestoreOk, WorkOk, IsWholeFetch, HasTrueFetches, SessionsHold, HasGoodRanges}
@@ -34,7 +33,7 @@ use Rattle.ccr_law_followers.proofs.Events.{push_new, push_old, drop_same, woken
 use Rattle.ccr_law_followers.proofs.Files.{fetched}
 use Rattle.ccr_law_followers.proofs.Restoring.{SaysTruly, restore-hears}
 use Rattle.ccr_law_followers.proofs.FetchRows.{WorkAfter, lose_work, tick_work, clock_work, lose_write_work, take_work, apply_work, written_work, add_copy_work, renew_work, pause_work, resume_work, restart_work, unfollow_work, status_work, receive_work}
-use Rattle.std.proofs.lemmas.Bool.{and_parts}
+use Rattle.std.proofs.lemmas.Bool.{and_parts, eqb-true}
 
 -- ---- more sessions
 
@@ -237,8 +236,8 @@ part_there session size place (c ∷ chunks) whole there =
     (elim (is_part place c) as (λ b. is_part place c ≡ b → (b || list_any (is_part place) chunks) ≡ true
     → option_map_or (λ (x : Chunk). x.bytes) (if b then Some c else find (is_part place) chunks) [] ≡ chunk_of session place.0 place.1 size) [
       | true ↦ λ is all.
-          let file : c.file ≡ place.0 = same_number c.file place.0 (and_parts (c.file == place.0) (c.offset == place.1) is).0 in
-          let offset : c.offset ≡ place.1 = same_number c.offset place.1 (and_parts (c.file == place.0) (c.offset == place.1) is).1 in
+          let file : c.file ≡ place.0 = eqb-true c.file place.0 (and_parts (c.file == place.0) (c.offset == place.1) is).0 in
+          let offset : c.offset ≡ place.1 = eqb-true c.offset place.1 (and_parts (c.file == place.0) (c.offset == place.1) is).1 in
           whole.0 ∙ (ap (λ (n : ℕ). chunk_of session n c.offset size) file ∙ ap (λ (n : ℕ). chunk_of session place.0 n size) offset)
       | false ↦ λ isnt rest. part_there session size place chunks whole.1 rest
     ]) refl there
@@ -252,7 +251,7 @@ whole_fetch sessions size next f some ok complete =
     let both : (is_empty f.asks ≡ true) × ((f.asked == length (places_of size f.sizes)) ≡ true) = and_parts (is_empty f.asks) (f.asked == length (places_of size f.sizes)) complete in
     let none : f.asks ≡ [] = none_asked f.asks both.0 in
     let every : take f.asked (places_of size f.sizes) ≡ places_of size f.sizes
-    = ap (λ (n : ℕ). take n (places_of size f.sizes)) (same_number f.asked (length (places_of size f.sizes)) both.1) ∙ take-length (places_of size f.sizes) in
+    = ap (λ (n : ℕ). take n (places_of size f.sizes)) (eqb-true f.asked (length (places_of size f.sizes)) both.1) ∙ take-length (places_of size f.sizes) in
     record {
       some = some;
       same_sizes = ok.same_sizes;

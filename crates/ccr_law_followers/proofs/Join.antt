@@ -13,11 +13,11 @@ use Rattle.ccr_model.specs.World.{State, for_follower}
 use Rattle.ccr_model.specs.Past.{Line, Past, FollowerPast, WrittenBatch, no_past, past_with, follower_past_of, follower_given_after, written_after, given_after, sending_place}
 use Rattle.ccr_law_core.specs.Cores.{IsCore}
 use Rattle.ccr_law_base.proofs.Lists.{some_equal}
-use Rattle.ccr_law_core.proofs.Replicas.{same_number}
 use Rattle.ccr_law_core.proofs.Events.{line_stays}
 use Rattle.ccr_law_followers.specs.TrueCopies.{FollowerOk, HasTrueCopies, Rises}
 use Rattle.ccr_law_followers.proofs.One.{Extends}
 use Rattle.ccr_law_followers.proofs.After.{OkOf, OkAfter, RowOk, kept, ok-later}
+use Rattle.std.proofs.lemmas.Bool.{eqb-true}
 
 -- ---- places of a list
 
@@ -146,7 +146,7 @@ one_moved p event f row None is aside rows core ok =
     other : (k : ℕ) (s : Follower) → slice_get p.state.followers k ≡ Some s → (b : Bool) → (f == k) ≡ b → b ≡ false
     other k s at false test = refl
     other k s at true test =
-        let e : slice_get p.state.followers f ≡ slice_get p.state.followers k = ap (slice_get p.state.followers) (same_number f k test) in cc
+        let e : slice_get p.state.followers f ≡ slice_get p.state.followers k = ap (slice_get p.state.followers) (eqb-true f k test) in cc
 one_moved p event f row (Some x) is aside rows core ok = join p event (for_follower p.state f row (Some x)) core ok record {
   each = λ k s new at there before. by_place k s new at before (set_at p.state.followers f (row x).next k new there);
   new = λ k new none there. absurd (contrary (slice_get (slice_set p.state.followers f (row x).next) k) new (none_set p.state.followers f (row x).next k none) there);
@@ -160,7 +160,7 @@ one_moved p event f row (Some x) is aside rows core ok = join p event (for_follo
         → (((f == k) ≡ true) × ((row x).next ≡ new)) ⊎ (((f == k) ≡ false) × (slice_get p.state.followers k ≡ Some new))
         → OkAfter (line_by p event (for_follower p.state f row (Some x))) k (p.followers k) event (row x).reply s new
     by_place k s new at before (inl own) =
-        let e : f ≡ k = same_number f k own.0 in
+        let e : f ≡ k = eqb-true f k own.0 in
         let old : x ≡ s = some_equal x s (sym is ∙ (ap (slice_get p.state.followers) e ∙ at)) in
         subst (λ (y : Follower). OkAfter (line_by p event (for_follower p.state f row (Some x))) k (p.followers k) event (row x).reply s y) own.1
         (subst (λ (y : Follower). OkAfter (line_by p event (for_follower p.state f row (Some x))) k (p.followers k) event (row x).reply y (row x).next) old

@@ -20,7 +20,7 @@ use Rattle.ccr_model.specs.FollowerRows.{with_copies, is_bootstrapping, follower
 use Rattle.ccr_model.specs.Past.{Line, FollowerPast, WrittenBatch}
 use Rattle.ccr_model.specs.FrameFacts.{IsCommitted}
 use Rattle.ccr_law_base.proofs.Cases.{on_if, on_guards}
-use Rattle.ccr_law_core.proofs.Replicas.{number_itself, least_known-replaced, least_known-changed}
+use Rattle.ccr_law_core.proofs.Replicas.{least_known-replaced, least_known-changed}
 use Rattle.ccr_law_core.proofs.Changes.{some-of}
 use Rattle.ccr_law_core.proofs.Sets.{count-marked}
 use Rattle.ccr_law_core.proofs.Rows.{inside}
@@ -33,6 +33,7 @@ use Rattle.ccr_law_followers.proofs.Several.{Found, found_in, recounted, one_giv
 use Rattle.ccr_law_followers.proofs.After.{OkOf, OkAfter, RowOk, settled}
 use Rattle.std.proofs.lemmas.Bool.{not-false}
 use Rattle.ccr_law_base.proofs.Lists.{All-in}
+use Rattle.ccr_law_base.proofs.Tests.{itself}
 
 -- ---- replications
 
@@ -122,7 +123,7 @@ replicate_ok line f past s copy seq (Some r) is ok =
           replicas = replaced copy (record r { copy = knowing s.copies.primary.global (taking r.copy seq (op_at seq (held s.copies.primary.store))) }) s.copies.replicas;
         }))
         (gave past.given copy (gaining (past.given copy) seq (slice_get line.ops seq))) past.written
-        (ap (λ (b : Bool). if b then gave past.given copy (gaining (past.given copy) seq (slice_get line.ops seq)) else past.given) (number_itself f)) refl refl (omega arith)
+        (ap (λ (b : Bool). if b then gave past.given copy (gaining (past.given copy) seq (slice_get line.ops seq)) else past.given) (itself f)) refl refl (omega arith)
         (record {
           copies = replicated line past.given past.restored past.written s.copies copy seq r ok.copies
               (found_in line past.given past.restored past.written s.copies copy r ok.copies is) there;
@@ -253,7 +254,7 @@ add_copy_ok line f past s ok =
     (λ tests.
     settled line f past (events.AddCopy (sides.Follower f)) (replies.Added s.copies.next) s _
     (gave past.given s.copies.next (past.given s.copies.primary.number)) past.written
-    (ap (λ (b : Bool). if b then gave past.given s.copies.next (past.given s.copies.primary.number) else past.given) (number_itself f)) refl refl (omega arith)
+    (ap (λ (b : Bool). if b then gave past.given s.copies.next (past.given s.copies.primary.number) else past.given) (itself f)) refl refl (omega arith)
     (record {
       copies = recounted line (gave past.given s.copies.next (past.given s.copies.primary.number)) past.restored past.written s.copies.primary
           (s.copies.replicas ++ newcomer s.copies ∷ []) (s.copies.next + 1) (added line past.given past.restored past.written s.copies ok.copies);

@@ -14,12 +14,14 @@ use Rattle.ccr_journal.specs.Params.{IsCopyCount}
 use Rattle.ccr_model.specs.FrameFacts.{IsCommitted}
 use Rattle.ccr_law_base.proofs.Cases.{on_if}
 use Rattle.ccr_law_base.proofs.Lists.{All-weaker, All-both, All-push, All-map, All-map_back, All-replaced, All-without, All-find, All-changed}
-use Rattle.ccr_law_core.proofs.Replicas.{same_number, number_itself, gave-same, gave-other, given-aside, replaced-alone, Apart-replaced, Apart-without, others-without, Apart-map, Apart-push, Apart-changed, least_known-primary, least_known-each, least_known-bound}
+use Rattle.ccr_law_core.proofs.Replicas.{gave-same, gave-other, given-aside, replaced-alone, Apart-replaced, Apart-without, others-without, Apart-map, Apart-push, Apart-changed, least_known-primary, least_known-each, least_known-bound}
 use Rattle.ccr_law_core.proofs.Rows.{inside}
 use Rattle.ccr_law_core.proofs.Events.{fresh, fresh_apart}
 use Rattle.ccr_law_stores.specs.TrueStores.{IsTrueStore, IsTrueHistory}
 use Rattle.ccr_law_followers.specs.TrueCopies.{CopyOk, ReplicaOk, CopiesOk, CopiesOf, IsNew, all_in}
 use Rattle.ccr_law_followers.proofs.One.{Extends, copy-later, copy-next, copy-knows, copy-takes_all, taking_all, taking_all-number, taking_all-global, copy-fresh, copy-empty, copy-restores}
+use Rattle.std.proofs.lemmas.Bool.{eqb-true}
+use Rattle.ccr_law_base.proofs.Tests.{itself}
 
 -- ---- a later line
 
@@ -84,7 +86,7 @@ pub found_in : (line : Line) (given : ℕ → ℕ → Option Operation) (restore
 found_in line given restored written s copy r ok found =
     let both : ReplicaOk line (given r.copy.number) restored written s.primary.number s.primary.global s.next r × ((r.copy.number == copy) ≡ true)
     = All-find (λ (x : Replica). ReplicaOk line (given x.copy.number) restored written s.primary.number s.primary.global s.next x) (λ x. x.copy.number == copy) s.replicas r ok.others found in
-    let same : r.copy.number ≡ copy = same_number r.copy.number copy both.1 in
+    let same : r.copy.number ≡ copy = eqb-true r.copy.number copy both.1 in
     record {
       number = same;
       other = subst (λ (k : ℕ). (k == s.primary.number) ≡ false) same both.0.other;
@@ -169,7 +171,7 @@ added line given restored written s ok = record {
       (λ x is. let less : x.copy.number < s.next = is.copy.old in grind (arith, nat_tests)) s.replicas ok.others)
       ok.others)
       (subst (λ (o : ℕ → Option Operation). ReplicaOk line o restored written s.primary.number s.primary.global (s.next + 1) (newcomer s))
-      (sym (gave-same given s.next (given s.primary.number) s.next (number_itself s.next)))
+      (sym (gave-same given s.next (given s.primary.number) s.next (itself s.next)))
       (record {
         copy = copy-copied line (given s.primary.number) restored written s.next s.primary ok.own;
         other = let less : s.primary.number < s.next = ok.own.old in grind (arith, nat_tests);
@@ -289,7 +291,7 @@ applies line given restored written s batch all ok =
     record {
       own = subst (λ (k : ℕ). CopyOk line (gave given s.primary.number ops k) restored written s.next (taking_all s.primary batch)) (sym (taking_all-number s.primary batch))
           (subst (λ (o : ℕ → Option Operation). CopyOk line o restored written s.next (taking_all s.primary batch))
-          (sym (gave-same given s.primary.number ops s.primary.number (number_itself s.primary.number)))
+          (sym (gave-same given s.primary.number ops s.primary.number (itself s.primary.number)))
           (copy-takes_all line (given s.primary.number) restored written s.next s.primary batch all ok.own));
       others = subst (λ (k : ℕ). AllByRecursion (λ (r : Replica). ReplicaOk line (gave given s.primary.number ops r.copy.number) restored written k (taking_all s.primary batch).global s.next r) s.replicas)
           (sym (taking_all-number s.primary batch))

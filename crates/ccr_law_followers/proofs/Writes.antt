@@ -22,12 +22,12 @@ use Rattle.ccr_model.specs.FrameFacts.{IsCommitted}
 use Rattle.ccr_model.specs.Invariants.{HasProcessed}
 use Rattle.ccr_law_base.proofs.Cases.{on_if, on_guards}
 use Rattle.ccr_law_base.proofs.Lists.{All-weaker, All-both, All-push, All-map_back, All-append_front, All-append_back, All-find, some_equal}
-use Rattle.ccr_law_core.proofs.Replicas.{number_itself}
 use Rattle.ccr_law_followers.specs.TrueCopies.{CopyOk, ReplicaOk, CopiesOf, HasCommittedBatches}
 use Rattle.ccr_law_followers.proofs.One.{taking_all, taking_all-global}
 use Rattle.ccr_law_followers.proofs.Several.{recounted, applies}
 use Rattle.ccr_law_followers.proofs.After.{OkOf, RowOk, settled}
 use Rattle.std.proofs.lemmas.Bool.{and_parts, not-false}
+use Rattle.ccr_law_base.proofs.Tests.{itself}
 
 -- ---- writes that were sent
 
@@ -69,7 +69,7 @@ apply_ok line f past s epoch number batch found is committed ok =
         let ops = gaining_batch (past.given s.copies.primary.number) batch line.ops in
         settled line f past (events.Apply f epoch number batch) (replies.Applied (new_in s.copies.primary.seen batch)) s (with_copies s (applied batch s.copies))
         (gave past.given s.copies.primary.number ops) past.written
-        (ap (λ (b : Bool). if b then gave past.given s.copies.primary.number ops else past.given) (number_itself f)) refl refl
+        (ap (λ (b : Bool). if b then gave past.given s.copies.primary.number ops else past.given) (itself f)) refl refl
         (let global : (taking_all s.copies.primary batch).global ≡ s.copies.primary.global = taking_all-global s.copies.primary batch in omega arith)
         (record {
           copies = recounted line (gave past.given s.copies.primary.number ops) past.restored past.written (taking_all s.copies.primary batch) s.copies.replicas s.copies.next
@@ -145,7 +145,7 @@ written_ok line f past s number (Some w) is ok = by_lacking (lacks w.write.batch
         settled line f past (events.Written f number) replies.Done s (with_task s (write_ended w.task w.write).next) past.given
         (past.written ++ record { epoch = s.epoch; batch = w.write.batch } ∷ []) refl
         (ap (λ (b : Bool). if b then option_map_or (λ (sent : Sent). past.written ++ record { epoch = s.epoch; batch = sent.write.batch } ∷ []) (sent_write s.work number) past.written else past.written)
-        (number_itself f)
+        (itself f)
         ∙ ap (λ (o : Option Sent). option_map_or (λ (sent : Sent). past.written ++ record { epoch = s.epoch; batch = sent.write.batch } ∷ []) o past.written) is)
         (sym (replicating_if_sent s.work number w is)) (omega arith)
         (record {

@@ -2,9 +2,8 @@
 use Rattle.std.specs.Prelude.{filter, slice_get, not, nat_lt, ◌==◌, unwrap_or, IfSome}
 use Rattle.std.specs.Str.{bytes_eq}
 use Rattle.std.specs.List.{AllByRecursion}
-use Rattle.std.proofs.Common.{◌≡◌, ℕ, zero, suc, ◌≤◌, true, false, if◌then◌else◌, Option, Some, None, List, [], ◌∷◌, ◌++◌, map, length, take, drop, refl, sym, ◌∙◌, ap, subst, arith}
-use Rattle.std.proofs.lemmas.Bool.Decides.{nat_tests}
-use Rattle.std.proofs.lemmas.Bool.{eqb-true}
+use Rattle.std.proofs.Common.{◌≡◌, ℕ, zero, suc, ◌≤◌, true, if◌then◌else◌, Option, Some, None, List, [], ◌∷◌, ◌++◌, map, length, take, drop, refl, sym, ◌∙◌, ap, subst}
+use Rattle.std.proofs.lemmas.Bool.{eqb-true, ltb-false}
 use Rattle.ccr_wire.specs.Message.{Frame}
 use Rattle.ccr_wire.specs.declared.content.Content.{Content}
 use Rattle.ccr_wire.specs.declared.content.Content.TheVariants as contents
@@ -82,9 +81,6 @@ read-answer scene followers p c brings high of =
           (ask_in w p.request) truth.said.asks;
     }) of
 
-not-below : (a b : ℕ) → nat_lt a b ≡ false → b ≤ a
-not-below a b isnt = grind (arith, nat_tests)
-
 answer_read-tells : (scene : Scene) (followers : List Follower) (l : Leader) (p : Poll) (c : Copy) (next : Leader) → CopyBrings scene.line c → IsOfFollower scene followers (frame_of_poll p)
     → Told scene followers next → RowTells scene followers (answer_read l p c next)
 answer_read-tells scene followers l p c next brings of told =
@@ -92,7 +88,7 @@ answer_read-tells scene followers l p c next brings of told =
     (λ other. sends scene followers next _ (answer-of scene followers (frame_of_poll p) (contents.ReadHistory l.start.history) (λ f lease w truth. tt) of, tt) told)
     (λ same. on_if (RowTells scene followers) (nat_lt p.from c.floor) _ _
     (λ low. sends scene followers next _ (answer-of scene followers (frame_of_poll p) (contents.ReadMissing p.from c.floor) (λ f lease w truth. tt) of, tt) told)
-    (λ high. sends scene followers next _ (read-answer scene followers p c brings (not-below p.from c.floor high) of, tt) told))
+    (λ high. sends scene followers next _ (read-answer scene followers p c brings (ltb-false p.from c.floor high) of, tt) told))
 
 pub read-tells : (scene : Scene) (followers : List Follower) (l : Leader) (p : Poll) (copy : ℕ) (found : Option Copy) → ((c : Copy) → found ≡ Some c → CopyBrings scene.line c)
     → IsOfFollower scene followers (frame_of_poll p) → Told scene followers l → RowTells scene followers (read_row l p copy found)

@@ -4,11 +4,7 @@ use Rattle.std.specs.Prelude.{Option, Some, None, is_some, filter}
 use Rattle.std.specs.List.{AllByRecursion, list_any, list_all}
 use Rattle.ccr_law_base.proofs.Cases.{on_if}
 use Rattle.ccr_law_base.proofs.Tests.{or-more}
-use Rattle.std.proofs.lemmas.Bool.{and_parts, or_left}
-
-pub or-right : (a b : Bool) → b ≡ true → (a || b) ≡ true
-or-right true b is = refl
-or-right false b is = is
+use Rattle.std.proofs.lemmas.Bool.{and_parts, or_left, or_right}
 
 pub or-other : (a b : Bool) → (a ≡ true → b ≡ true) → (a || b) ≡ true → b ≡ true
 or-other true b other is = other refl
@@ -40,7 +36,7 @@ the-found None some = absurd cc
 the-found (Some x) some = (x, refl)
 
 pub any-put : {X : Type 0} (test : X → Bool) (n : ℕ) (new : X) (xs : List X) → list_any test xs ≡ true → list_any test (take n xs ++ new ∷ drop n xs) ≡ true
-any-put test zero new xs some = or-right (test new) (list_any test xs) some
+any-put test zero new xs some = or_right (test new) (list_any test xs) some
 any-put test (suc n) new [] some = absurd cc
 any-put test (suc n) new (x ∷ xs) some = or-more (test x) (list_any test xs) (list_any test (take n xs ++ new ∷ drop n xs)) (any-put test n new xs) some
 
@@ -48,7 +44,7 @@ any-put test (suc n) new (x ∷ xs) some = or-more (test x) (list_any test xs) (
 pub any-new : {X : Type 0} (test : X → Bool) (n : ℕ) (new : X) (xs : List X) → test new ≡ true → list_any test (take n xs ++ new ∷ drop n xs) ≡ true
 any-new test zero new xs passes = or_left (test new) (list_any test xs) passes
 any-new test (suc n) new [] passes = or_left (test new) false passes
-any-new test (suc n) new (x ∷ xs) passes = or-right (test x) (list_any test (take n xs ++ new ∷ drop n xs)) (any-new test n new xs passes)
+any-new test (suc n) new (x ∷ xs) passes = or_right (test x) (list_any test (take n xs ++ new ∷ drop n xs)) (any-new test n new xs passes)
 
 -- a filter that keeps all that pass loses none of them
 pub any-filter : {X : Type 0} (test keep : X → Bool) (xs : List X) → AllByRecursion (λ x. test x ≡ true → keep x ≡ true) xs

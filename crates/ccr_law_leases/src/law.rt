@@ -31,8 +31,8 @@ pub fn lease_history()
     ensures unbroken { (start : Start) → IsCopyCount start.copies → (entries : List Entry) → IsLegal (start_state start) entries → StaysUnbroken (past_of (start_past start) entries) }
 {}
 
-/// An expiry drops each lease since whose last addition or renewal more than the period has passed, and no other: a
-/// lease whose period is just over is kept.
+/// An expiry drops each lease since whose last addition or renewal more than the period has passed, and no other, and
+/// makes none: a lease whose period is just over is kept as it was.
 pub fn leader_expiry()
     ensures { ExpiriesAreRight }
 {}

@@ -3,7 +3,7 @@ use Rattle.std.specs.Prelude.{slice_get, slice_set, remove, not, nat_lt, ◌==�
 use Rattle.std.specs.Option.{option_and_then}
 use Rattle.std.specs.List.{AllByRecursion, list_any}
 use Rattle.std.specs.Str.{bytes_eq}
-use Rattle.std.proofs.Common.{◌≡◌, inl, inr, ℕ, zero, suc, ◌+◌, ◌≤◌, ◌&&◌, Bool, true, false, List, [], ◌∷◌, ◌++◌, map, Option, Some, None, refl, ap, sym, ◌∙◌, subst, arith}
+use Rattle.std.proofs.Common.{◌≡◌, inl, inr, ℕ, zero, suc, ◌+◌, ◌≤◌, Bool, true, false, List, [], ◌∷◌, ◌++◌, map, Option, Some, None, refl, ap, sym, ◌∙◌, subst, arith}
 use Rattle.std.proofs.lemmas.Slice.Eq.{bytes_eq-Decides}
 use Rattle.ccr_lease.specs.declared.retention.Lease.{Lease}
 use Rattle.ccr_lease.specs.Leases.{lease_of}
@@ -41,6 +41,7 @@ use Rattle.ccr_law_retained.proofs.Moves.{receive-moves}
 use Rattle.ccr_law_retained.proofs.Saying.{AsksTruly, received-says}
 use Rattle.ccr_law_retained.proofs.Worlds.{any_work, to_none, led, moved, left, early-asked}
 use Rattle.ccr_law_retained.proofs.Places.{knows-own, knows-none, setting-of, place-known, past-unmoved, past-other, past-own, drawn-below}
+use Rattle.std.proofs.lemmas.Bool.{and_from}
 
 -- ---- replies to messages
 
@@ -245,7 +246,7 @@ to-follower p at copy keep m f x grounds is goes there own higher all =
     let below = drawn-below p f x grounds there in
     let heard_as : Heard (p.followers f).answer p.notes p.state.flight (uuid_of f) x.lease (bound_of x.copies.primary.global x.work) m grant.place = record {
       own = own;
-      grant = λ granted. grant.holds (and-is (bytes_eq m.follower (uuid_of f)) _ own granted);
+      grant = λ granted. grant.holds (and_from (bytes_eq m.follower (uuid_of f)) _ own granted);
       opens = λ kept a same. opens-of (bound_of x.copies.primary.global x.work) a same (old.within kept);
       none = λ a same. (early-asked p.state.followers (λ g. (p.followers g).answer) p.notes p.state.flight p.sent_at p.line.cut f x all there a same).none;
     } in
@@ -273,11 +274,6 @@ to-follower p at copy keep m f x grounds is goes there own higher all =
     (moved p.state.followers (λ g. (p.followers g).answer) now p.notes p.state.flight o.sent p.sent_at p.line.cut after.line.cut p.place p.state.leader.copies f x o.next (setting-of p grounds) there hears.lease hears.work.replicates
     hears.sent hears.renews (omega arith) (λ g other. past-other p.state.followers f o.next g (p.followers g) (sending_place p.sent_at event) event o.reply _ other) own_ok all)))
   where
-    and-is : (a b : Bool) → a ≡ true → b ≡ true → (a && b) ≡ true
-    and-is true true one two = refl
-    and-is true false one two = two
-    and-is false b one two = one
-
     opens-of : (bound : Bound) (a : Asked) → bound ≡ asked a → Within p.state.flight (uuid_of f) x.lease (retained x.lease p.notes) bound → OpensAbove (uuid_of f) a (retained x.lease p.notes) m
     opens-of bound a same within =
         let opens : AllByRecursion (OpensAbove (uuid_of f) a (retained x.lease p.notes)) p.state.flight =

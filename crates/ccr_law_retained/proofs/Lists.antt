@@ -1,10 +1,12 @@
 -- Lemmas on lists: of the least number that reads ask for, of messages with the places where they were sent, and of requests.
 use Rattle.std.specs.List.{AllByRecursion, list_any}
 use Rattle.std.specs.Prelude.{slice_get, slice_set, remove}
-use Rattle.std.proofs.Common.{◌≡◌, ℕ, zero, suc, ◌≤◌, ◌||◌, Bool, true, false, Some, List, [], ◌∷◌, ◌++◌, map, take, drop, refl, ap, subst, arith}
+use Rattle.std.proofs.Common.{◌≡◌, ℕ, zero, suc, ◌≤◌, Bool, true, false, Some, List, [], ◌∷◌, ◌++◌, map, take, drop, refl, ap, subst, arith}
 use Rattle.ccr_wire.specs.Message.{Frame}
 use Rattle.ccr_model.specs.Tasks.{Read}
 use Rattle.ccr_law_retained.specs.Retaining.{AllSent, low_of}
+use Rattle.std.proofs.lemmas.Bool.{or_right}
+use Rattle.ccr_law_base.proofs.Tests.{or_second}
 
 -- ---- the least number that is asked for
 
@@ -91,19 +93,11 @@ sent-at P (x ∷ flight) (place ∷ places) (suc at) m all is =
 
 pub any-more : {X : Type 0} (test : X → Bool) (new xs : List X) → list_any test xs ≡ true → list_any test (new ++ xs) ≡ true
 any-more test [] xs some = some
-any-more test (x ∷ new) xs some = or-right (test x) (list_any test (new ++ xs)) (any-more test new xs some)
-  where
-    or-right : (a b : Bool) → b ≡ true → (a || b) ≡ true
-    or-right true b is = refl
-    or-right false b is = is
+any-more test (x ∷ new) xs some = or_right (test x) (list_any test (new ++ xs)) (any-more test new xs some)
 
 pub none-before : {X : Type 0} (test : X → Bool) (new xs : List X) → list_any test (new ++ xs) ≡ false → list_any test xs ≡ false
 none-before test [] xs none = none
-none-before test (x ∷ new) xs none = none-before test new xs (or-none (test x) (list_any test (new ++ xs)) none)
-  where
-    or-none : (a b : Bool) → (a || b) ≡ false → b ≡ false
-    or-none true b none = absurd cc
-    or-none false b none = none
+none-before test (x ∷ new) xs none = none-before test new xs (or_second (test x) (list_any test (new ++ xs)) none)
 
 -- ---- places of a list
 

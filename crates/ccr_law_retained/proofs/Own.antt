@@ -3,7 +3,7 @@ use Rattle.std.specs.Prelude.{◌==◌, if◌then◌else◌, not, IfSome}
 use Rattle.std.specs.List.{AllByRecursion}
 use Rattle.std.specs.Str.{bytes_eq}
 use Rattle.std.proofs.Common.{◌≡◌, ◌⊎◌, inl, inr, ℕ, ◌≤◌, ◌<◌, ◌&&◌, Bool, true, false, List, ◌++◌, map, Option, Some, None, refl, ap, sym, ◌∙◌, subst, arith}
-use Rattle.std.proofs.lemmas.Bool.{eqb-true, and_parts}
+use Rattle.std.proofs.lemmas.Bool.{eqb-true, and_parts, and_from}
 use Rattle.ccr_wire.specs.Message.{Frame}
 use Rattle.ccr_wire.specs.declared.content.Content.{Content}
 use Rattle.ccr_wire.specs.declared.content.Content.TheVariants as contents
@@ -121,17 +121,12 @@ answers-within drawn number uuid lease flight sent m (asked a) free it own below
 answers-within drawn number uuid lease flight sent m (asked a) (asked now) it own below all opens = absurd it
 answers-within drawn number uuid lease flight sent m (asked a) (at_most now) it own below all opens =
     let both = opens a refl in
-    let least : IfSome (Some it.0) (λ count. number ≤ count) = subst (λ (o : Option ℕ). IfSome o (λ count. number ≤ count)) it.2 (both.0 (and-is (bytes_eq m.follower uuid) (answers m a) own it.1)) in
+    let least : IfSome (Some it.0) (λ count. number ≤ count) = subst (λ (o : Option ℕ). IfSome o (λ count. number ≤ count)) it.2 (both.0 (and_from (bytes_eq m.follower uuid) (answers m a) own it.1)) in
     let up = it.3 in (
       omega arith,
       All-append (RenewalLow lease now) flight sent
           (All-weaker (λ (m : Frame). renewal_of lease m.content ≡ None) (RenewalLow lease now) (λ m none. subst (λ (o : Option ℕ). IfSome o (λ n. n ≤ now)) (sym none) tt) flight both.1) (sent-low lease now sent all),
     )
-  where
-    and-is : (a b : Bool) → a ≡ true → b ≡ true → (a && b) ≡ true
-    and-is true true one two = refl
-    and-is true false one two = two
-    and-is false b one two = one
 answers-within drawn number uuid lease flight sent m (at_most b) new it own below all opens = absurd it
 
 -- ---- the follower

@@ -5,7 +5,6 @@ use Rattle.std.specs.List.{AllByRecursion, list_all}
 use Rattle.std.specs.Str.{bytes_eq}
 use Rattle.std.proofs.Common.{◌≡◌, ℕ, ◌+◌, ◌≤◌, ◌<◌, ◌&&◌, Bool, true, false, List, [], ◌∷◌, ◌++◌, map, Option, Some, None, refl, sym, subst, arith, append_assoc}
 use Rattle.std.proofs.lemmas.Bool.{ltb-true, or_left, and_from}
-use Rattle.std.proofs.lemmas.Bool.Decides.{Decides-eqb}
 use Rattle.ccr_lease.specs.declared.retention.Lease.{Lease}
 use Rattle.ccr_lease.specs.Leases.{lease_of, renewed, without}
 use Rattle.ccr_wire.specs.Message.{Frame}
@@ -31,6 +30,7 @@ use Rattle.ccr_law_leases.proofs.Messages.{adding}
 use Rattle.ccr_law_retained.specs.Grounds.{FloorsLow}
 use Rattle.ccr_law_retained.specs.Retaining.{RenewalLow}
 use Rattle.ccr_law_retained.proofs.Growing.{ReadsFrom, IsSaid, AreSaid, NotesLow, answered-more}
+use Rattle.ccr_law_base.proofs.Tests.{itself}
 
 -- ---- floors
 
@@ -77,11 +77,8 @@ KeptOwn to lease kept = AllByRecursion (λ (k : KeptRequest). to k.follower → 
 abbrev pub kept_note : Copies → ℕ → KeptRequest → LeaseNote
 kept_note next place k = record { id = k.id; place = place; deed = history.answered (greatest_floor next) }
 
-same-number : (n : ℕ) → (n == n) ≡ true
-same-number n = (Decides-eqb n n).1 refl
-
 pub newly-answered : (id : List ℕ) (place number : ℕ) (notes : List LeaseNote) → IsAnsweredAt id place (record { id = id; place = place; deed = history.answered number } ∷ notes)
-newly-answered id place number notes = or_left _ _ (and_from (bytes_eq id id) (place == place) (same_bytes id) (same-number place))
+newly-answered id place number notes = or_left _ _ (and_from (bytes_eq id id) (place == place) (same_bytes id) (itself place))
 
 kept-noted : (next : Copies) (place : ℕ) (more : List LeaseNote) (ks : List KeptRequest)
     → AllByRecursion (λ (k : KeptRequest). all_hold k.id next ≡ true → IsAnsweredAt k.id place (map {A = KeptRequest} {B = LeaseNote} (kept_note next place) (filter (λ k. all_hold k.id next) ks) ++ more)) ks

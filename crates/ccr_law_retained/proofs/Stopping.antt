@@ -3,7 +3,7 @@ use Rattle.std.specs.Prelude.{slice_get, not, nat_lt, ◌==◌, IfSome, if◌the
 use Rattle.std.specs.Option.{option_map}
 use Rattle.std.specs.List.{list_any}
 use Rattle.std.specs.Str.{bytes_eq}
-use Rattle.std.proofs.Common.{◌≡◌, ◌⊎◌, inl, inr, ℕ, ◌&&◌, Bool, true, false, List, Option, Some, None, refl, ap, sym, ◌∙◌, subst, arith}
+use Rattle.std.proofs.Common.{◌≡◌, ◌⊎◌, inl, inr, ℕ, Bool, true, List, Option, Some, None, refl, ap, sym, ◌∙◌, subst, arith}
 use Rattle.ccr_lease.specs.declared.retention.Lease.{Lease}
 use Rattle.ccr_lease.specs.Leases.{lease_of}
 use Rattle.ccr_wire.specs.Message.{Frame, kind_of_content}
@@ -35,6 +35,7 @@ use Rattle.ccr_law_base.proofs.Cases.{on_if}
 use Rattle.ccr_law_base.proofs.Lists.{All-at, some_equal}
 use Rattle.ccr_law_retained.specs.Retaining.{MissingOk, LostSince, IsRetaining}
 use Rattle.ccr_law_retained.proofs.Deliveries.{is-there, IsThere, flipped}
+use Rattle.std.proofs.lemmas.Bool.{and_from}
 
 -- where the reply tells of a stop, the message was one of missing operations that answers a read
 record IsStop (w : Work) (m : Frame) : Type 0 where
@@ -176,13 +177,8 @@ lost-for p m f x _ named there lost stop = tt
 stop-is-lost : (p : Past) (at : ℕ) (m : Frame) (f : ℕ) (x : Follower) → IsRetaining p → slice_get p.state.flight at ≡ Some m → slice_get p.state.followers f ≡ Some x → bytes_eq m.follower (uuid_of f) ≡ true
     → IsStop x.work m → IsLost p f x.lease
 stop-is-lost p at m f x all is there own stop =
-    by-either (All-at (MissingOk (p.followers f).answer (uuid_of f) x.lease p.notes x.work) p.state.flight at m (all.made f x there).missing is (and-is (bytes_eq m.follower (uuid_of f)) (is_missing m.content) own stop.missing))
+    by-either (All-at (MissingOk (p.followers f).answer (uuid_of f) x.lease p.notes x.work) p.state.flight at m (all.made f x there).missing is (and_from (bytes_eq m.follower (uuid_of f)) (is_missing m.content) own stop.missing))
   where
-    and-is : (a b : Bool) → a ≡ true → b ≡ true → (a && b) ≡ true
-    and-is true true one two = refl
-    and-is true false one two = two
-    and-is false b one two = one
-
     by-either : (reading_in x.work m.request ≡ None) ⊎ LostSince (p.followers f).answer x.lease p.notes → IsLost p f x.lease
     by-either (inl none) = absurd (let some = stop.reads in cc)
     by-either (inr lost) = record { place = lost.place; answer = lost.is; lost = lost.lost }

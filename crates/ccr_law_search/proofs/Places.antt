@@ -24,10 +24,11 @@ use Rattle.ccr_law_base.proofs.Cases.{on_if}
 use Rattle.ccr_law_core.specs.Cores.{IsReplica, CoreOf}
 use Rattle.ccr_law_core.proofs.Events.{core_primary_copy, core_replica}
 use Rattle.ccr_law_base.proofs.Lists.{All-find, All-map_back, All-both}
-use Rattle.ccr_law_core.proofs.Replicas.{same_number, number_itself}
 use Rattle.ccr_law_search.specs.Searchable.{AreNumbered}
 use Rattle.ccr_law_search.specs.Places.{HoldsForLeader, HoldsForFollower, AreSearchable, AnswersAtPlaces}
 use Rattle.ccr_law_search.proofs.Saying.{leader_answers, follower_answers}
+use Rattle.std.proofs.lemmas.Bool.{eqb-true}
+use Rattle.ccr_law_base.proofs.Tests.{itself}
 
 -- ---- the leader
 
@@ -74,11 +75,11 @@ found_says : (line : Line) (given : ℕ → ℕ → Option Operation) (s : Copie
 found_says line given s copy query keys all other None is = tt
 found_says line given s copy query keys all other (Some r) is =
     let own : HasBoth line given s r × ((r.copy.number == copy) ≡ true) = All-find (HasBoth line given s) (λ (x : Replica). x.copy.number == copy) s.replicas r all is in
-    replica_says line given s copy query keys r own.0.0 own.0.1 (same_number r.copy.number copy own.1) counts
+    replica_says line given s copy query keys r own.0.0 own.0.1 (eqb-true r.copy.number copy own.1) counts
   where
     counts : IsResynced s copy → r.resynced ≡ true
     counts (inl same) =
-        let itself : (copy == copy) ≡ true = number_itself copy in
+        let itself : (copy == copy) ≡ true = itself copy in
         let isnt : (copy == copy) ≡ false = subst (λ (k : ℕ). (k == copy) ≡ false) same other in cc
     counts (inr resynced) = subst (λ (o : Option Replica). option_map_or (λ (x : Replica). x.resynced) o false ≡ true) is resynced
 
@@ -86,7 +87,7 @@ pub leader_says : (line : Line) (given : ℕ → ℕ → Option Operation) (s : 
     → CoreOf line given s → AllByRecursion (HoldsForLeader given) (all_copies s) → LeaderSays line given s copy query keys (copy_of s copy)
 leader_says line given s copy query keys core holds =
     on_if (LeaderSays line given s copy query keys) (s.primary.number == copy) (Some s.primary) (option_map {T = Replica} {U = Copy} (λ r. r.copy) (replica_of s copy))
-    (λ is. primary_says line given s copy query keys core holds.0 (same_number s.primary.number copy is))
+    (λ is. primary_says line given s copy query keys core holds.0 (eqb-true s.primary.number copy is))
     (λ isnt. found_says line given s copy query keys
     (All-both (λ (r : Replica). IsReplica line s.primary.number s.next (given r.copy.number) r) (λ (r : Replica). HoldsForLeader given r.copy) s.replicas
     core.rest.replicas_ok (All-map_back (HoldsForLeader given) (λ (r : Replica). r.copy) s.replicas holds.1))
@@ -110,13 +111,13 @@ replica_copy_says : (line : Line) (given : ℕ → ℕ → Option Operation) (re
 replica_copy_says line given restored s copy query keys all None is = tt
 replica_copy_says line given restored s copy query keys all (Some r) is =
     let own = All-find (λ (x : Replica). HoldsForFollower line given restored x.copy) (λ (x : Replica). x.copy.number == copy) s.replicas r all is in
-    copy_says line given restored copy query keys r.copy own.0 (same_number r.copy.number copy own.1)
+    copy_says line given restored copy query keys r.copy own.0 (eqb-true r.copy.number copy own.1)
 
 pub follower_says : (line : Line) (given : ℕ → ℕ → Option Operation) (restored : ℕ) (s : Copies) (copy : ℕ) (query : Tree) (keys : List SortKey)
     → AllByRecursion (HoldsForFollower line given restored) (all_copies s) → FollowerSays line given copy query keys (copy_of s copy)
 follower_says line given restored s copy query keys holds =
     on_if (FollowerSays line given copy query keys) (s.primary.number == copy) (Some s.primary) (option_map {T = Replica} {U = Copy} (λ r. r.copy) (replica_of s copy))
-    (λ is. copy_says line given restored copy query keys s.primary holds.0 (same_number s.primary.number copy is))
+    (λ is. copy_says line given restored copy query keys s.primary holds.0 (eqb-true s.primary.number copy is))
     (λ isnt. replica_copy_says line given restored s copy query keys
     (All-map_back (HoldsForFollower line given restored) (λ (r : Replica). r.copy) s.replicas holds.1) (replica_of s copy) refl)
 

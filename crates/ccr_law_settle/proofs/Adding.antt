@@ -30,6 +30,8 @@ use Rattle.ccr_law_settle.proofs.Delivering.{taken}
 use Rattle.ccr_law_settle.proofs.Answering.{with_these, any_step, answered_lower, delivered_by, same_open}
 use Rattle.ccr_law_leases.proofs.Collections.{is_of, there-put}
 use Rattle.ccr_law_leases.proofs.Finding.{any-put}
+use Rattle.ccr_law_base.proofs.Tests.{and-more}
+use Rattle.std.proofs.lemmas.Bool.{or_left}
 
 -- ---- one lease more
 
@@ -93,12 +95,8 @@ kept_lower s at m leases id existed lacking found heavy gains =
     after : State
     after = record s { leader = record (with_leases s.leader leases) { kept = left_of copies kept }; flight = rest ++ told }
 
-    last : (a b c : Bool) → (b ≡ true → c ≡ true) → (a && b) ≡ true → (a && c) ≡ true
-    last true b c step any = step any
-    last false b c step any = cc
-
     kept_step : (uuid : List ℕ) (request : ℕ) (k : KeptRequest) → keeps s.leader.copies.primary uuid request k ≡ true → keeps copies.primary uuid request k ≡ true
-    kept_step uuid request k any = last (bytes_eq k.follower uuid && (k.request == request)) _ _ (gains.held_still k.id) any
+    kept_step uuid request k any = and-more (bytes_eq k.follower uuid && (k.request == request)) _ _ (gains.held_still k.id) any
 
     -- the message is kept
     kept_now : (uuid : List ℕ) (request : ℕ) → carries uuid request m ≡ true → list_any (keeps copies.primary uuid request) kept ≡ true
@@ -116,12 +114,8 @@ kept_lower s at m leases id existed lacking found heavy gains =
     kept_still : (uuid : List ℕ) (request : ℕ) → list_any (keeps s.leader.copies.primary uuid request) s.leader.kept ≡ true → list_any (keeps copies.primary uuid request) kept ≡ true
     kept_still uuid request is =
         rw (list_any-append (keeps copies.primary uuid request) s.leader.kept (kept_as m id existed ∷ []))
-        (early (list_any (keeps copies.primary uuid request) s.leader.kept) (list_any (keeps copies.primary uuid request) (kept_as m id existed ∷ []))
+        (or_left (list_any (keeps copies.primary uuid request) s.leader.kept) (list_any (keeps copies.primary uuid request) (kept_as m id existed ∷ []))
         (any_step (keeps s.leader.copies.primary uuid request) (keeps copies.primary uuid request) s.leader.kept (kept_step uuid request) is))
-      where
-        early : (a b : Bool) → a ≡ true → (a || b) ≡ true
-        early true b is = refl
-        early false b is = cc
 
     joined : (m flight polls old new rest told left : Bool) → (flight ≡ true → (m || rest) ≡ true) → (m ≡ true → new ≡ true) → (old ≡ true → new ≡ true) → (new ≡ true → (told || left) ≡ true)
         → ((flight || polls) || old) ≡ true → (((rest || told) || polls) || left) ≡ true

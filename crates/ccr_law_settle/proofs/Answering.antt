@@ -32,6 +32,7 @@ use Rattle.ccr_law_settle.proofs.Syncing.{left_of, answers_of, plain_answers, bu
 use Rattle.ccr_law_settle.proofs.Waking.{waits}
 use Rattle.ccr_law_settle.proofs.Taken.{total_remove, any_remove, choice_lower, ranks_left}
 use Rattle.ccr_law_settle.proofs.Delivering.{taken, primary_found}
+use Rattle.ccr_law_base.proofs.Tests.{and-more}
 
 -- ---- more sessions
 
@@ -56,10 +57,6 @@ rank_opened : (flight : List Frame) (old new : List Session) (f : ℕ) (w : Work
 rank_opened flight old new f (replicating t) open_still = omega arith
 rank_opened flight old new f (restoring r) open_still = by r.stage
   where
-    last : (a b c : Bool) → (b ≡ true → c ≡ true) → (a && b) ≡ true → (a && c) ≡ true
-    last true b c step is = step is
-    last false b c step is = cc
-
     first : (a b c : Bool) → (a ≡ true → b ≡ true) → (a || c) ≡ true → (b || c) ≡ true
     first a true c step is = refl
     first true false c step is = let e : false ≡ true = step refl in cc
@@ -69,7 +66,7 @@ rank_opened flight old new f (restoring r) open_still = by r.stage
     by (leasing a) = omega arith
     by (opening a) = choice_lower (is_opened_in_vain flight new f a) (is_opened_in_vain flight old f a) 2 4 (omega arith)
         (any_step (λ (m : Frame). bytes_eq m.follower (uuid_of f) && answers m a && opens_closed new m.content) (λ (m : Frame). bytes_eq m.follower (uuid_of f) && answers m a && opens_closed old m.content) flight
-        (λ m. last (bytes_eq m.follower (uuid_of f) && answers m a) (opens_closed new m.content) (opens_closed old m.content) (opens_step old new open_still m.content)))
+        (λ m. and-more (bytes_eq m.follower (uuid_of f) && answers m a) (opens_closed new m.content) (opens_closed old m.content) (opens_step old new open_still m.content)))
     by (fetching fetch) = choice_lower (is_in_vain flight new f fetch) (is_in_vain flight old f fetch) 1 3 (omega arith)
         (first (is_none (session_of new fetch.session)) (is_none (session_of old fetch.session)) (is_told_gone flight f fetch) (open_still fetch.session))
 
@@ -159,11 +156,7 @@ told_lower s at m leases next sessions what content found is =
     joined false false false false new false false false a b c any = any
 
     kept_step : (uuid : List ℕ) (request : ℕ) (k : KeptRequest) → keeps s.leader.copies.primary uuid request k ≡ true → keeps copies.primary uuid request k ≡ true
-    kept_step uuid request k any = last (bytes_eq k.follower uuid && (k.request == request)) _ _ (is.held_still k.id) any
-      where
-        last : (a b c : Bool) → (b ≡ true → c ≡ true) → (a && b) ≡ true → (a && c) ≡ true
-        last true b c step any = step any
-        last false b c step any = cc
+    kept_step uuid request k any = and-more (bytes_eq k.follower uuid && (k.request == request)) _ _ (is.held_still k.id) any
 
     still : (uuid : List ℕ) (request : ℕ) → may_be_answered s uuid request ≡ true → may_be_answered after uuid request ≡ true
     still uuid request any =

@@ -2,7 +2,7 @@
 use Rattle.std.specs.List.{AllByRecursion, range_with_len, fold, list_all}
 use Rattle.std.specs.Prelude.{slice_get, slice_set}
 use Rattle.std.specs.Option.{option_map, option_map_or}
-use Rattle.std.proofs.Common.{◌≡◌, ℕ, ◌+◌, ◌-◌, ◌<◌, ◌≤◌, ◌==◌, ◌&&◌, ◌||◌, max, Bool, true, false, not, nat_lt, inr, inl, Option, Some, None, List, [], ◌∷◌, refl, sym, ◌∙◌, subst, arith}
+use Rattle.std.proofs.Common.{◌≡◌, ℕ, ◌+◌, ◌-◌, ◌<◌, ◌≤◌, ◌==◌, ◌&&◌, max, true, false, not, nat_lt, inr, inl, Option, Some, None, List, [], ◌∷◌, refl, sym, ◌∙◌, subst, arith}
 use Rattle.std.proofs.lemmas.Bool.Decides.{nat_tests}
 use Rattle.ccr_op.specs.Operation.{Operation}
 use Rattle.ccr_tracker.specs.Numbers.{Numbers, has, marked}
@@ -25,9 +25,9 @@ use Rattle.ccr_law_base.proofs.Lists.{All-find, some_equal}
 use Rattle.ccr_law_settle.specs.Measure.{total, passing, replica_lacks, copies_lack, work_lacks, follower_lacks, over_followers, rank_of, IsLower}
 use Rattle.ccr_law_settle.specs.Within.{AreWritesWithin, IsWithin}
 use Rattle.ccr_law_settle.proofs.Totals.{passing_fewer, le_itself, over_set_same, over_set_less}
-use Rattle.ccr_law_settle.proofs.CopyRows.{not_of_true, not_of_false, guarded_passes, marked_lacks}
-use Rattle.ccr_law_base.proofs.Tests.{and_first, and_second}
-use Rattle.std.proofs.lemmas.Bool.{not-true}
+use Rattle.ccr_law_settle.proofs.CopyRows.{guarded_passes, marked_lacks}
+use Rattle.ccr_law_base.proofs.Tests.{and_first, and_second, or_first}
+use Rattle.std.proofs.lemmas.Bool.{not-true, not_from_true, not_from_false}
 use Rattle.std.proofs.lemmas.List.{append-nil}
 
 abbrev numbers_lacking : ℕ → Numbers → ℕ
@@ -40,11 +40,7 @@ after_batch c batch = fold {A = Operation} {B = Copy} (λ c op. taking c op.seq 
 marked_no_more : (count : ℕ) (seen : Numbers) (seq : ℕ) → numbers_lacking count (marked seen seq) ≤ numbers_lacking count seen
 marked_no_more count seen seq =
     passing_fewer (λ n. not (has seen n)) (λ n. not (has (marked seen seq) n)) 0 count
-    (λ n lt is. not_of_false (has seen n) (out (has seen n) (seq == n) (sym (has-marked seen seq n) ∙ not-true (has (marked seen seq) n) is)))
-  where
-    out : (a b : Bool) → (a || b) ≡ false → a ≡ false
-    out true b is = cc
-    out false b is = refl
+    (λ n lt is. not_from_false (has seen n) (or_first (has seen n) (seq == n) (sym (has-marked seen seq n) ∙ not-true (has (marked seen seq) n) is)))
 
 batch_no_more : (count : ℕ) (batch : List Operation) (c : Copy) → numbers_lacking count (after_batch c batch).seen ≤ numbers_lacking count c.seen
 batch_no_more count [] c = omega arith
@@ -117,7 +113,7 @@ apply_lowers s f epoch write batch own (Some w) at low is =
     let less : copies_lack count (applied batch own.copies) < copies_lack count own.copies
     = applied_less count batch own.copies (subst (λ (ops : List Operation). AllByRecursion (λ (op : Operation). op.seq < count) ops) equal (low w refl)) lacks in
     subst (λ (o : Outcome Follower). IsLower (at_follower s f o).next s)
-    (sym (guarded_passes own _ (answered (replies.Applied (new_in own.copies.primary.seen batch)) new) (not_late epoch own.epoch same_epoch, (not_of_true (same_operations w.write.batch batch) same, tt))))
+    (sym (guarded_passes own _ (answered (replies.Applied (new_in own.copies.primary.seen batch)) new) (not_late epoch own.epoch same_epoch, (not_from_true (same_operations w.write.batch batch) same, tt))))
     (subst (λ (flight : List Frame). IsLower (record s { followers = slice_set s.followers f new; flight = flight }) s) (sym (append-nil s.flight))
     (inr (
       over_set_same (λ f own. rank_of s.flight s.leader.sessions f own.work) f own new s.followers at (le_itself (rank_of s.flight s.leader.sessions f own.work)),

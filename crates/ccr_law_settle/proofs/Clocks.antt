@@ -20,6 +20,7 @@ use Rattle.ccr_law_base.proofs.Cases.{on_if}
 use Rattle.ccr_law_settle.specs.Measure.{total, over_followers, rank_of, follower_lacks, old_peeks, weight_of_progress, weight_of_stage, weight_of_work, IsLower}
 use Rattle.ccr_law_settle.proofs.Totals.{le_itself, over_set_same, over_set_less}
 use Rattle.std.proofs.lemmas.List.{append-nil}
+use Rattle.ccr_law_base.proofs.Tests.{or_first, or_second}
 
 -- it waits until this time
 abbrev is_at : ℕ → Progress → Bool
@@ -57,17 +58,9 @@ not_due_later (on_its_way ∷ ps) now n none is = not_due_later ps now n none is
 not_due_later (held_back ∷ ps) now n none is = not_due_later ps now n none is
 not_due_later (waiting until ∷ ps) now n none is =
     (elim (until == n) as (λ b. (until == n) ≡ b → (b || list_any (is_at n) ps) ≡ true → now < n) [
-      | true ↦ λ at any. (let first : nat_le until now ≡ false = left (nat_le until now) (list_any (is_due now) ps) none in grind (arith, nat_tests))
-      | false ↦ λ other any. not_due_later ps now n (right (nat_le until now) (list_any (is_due now) ps) none) any
+      | true ↦ λ at any. (let first : nat_le until now ≡ false = or_first (nat_le until now) (list_any (is_due now) ps) none in grind (arith, nat_tests))
+      | false ↦ λ other any. not_due_later ps now n (or_second (nat_le until now) (list_any (is_due now) ps) none) any
     ]) refl is
-  where
-    left : (a b : Bool) → (a || b) ≡ false → a ≡ false
-    left true b is = cc
-    left false b is = refl
-
-    right : (a b : Bool) → (a || b) ≡ false → b ≡ false
-    right true b is = cc
-    right false b is = is
 
 -- a later time lowers what waits
 later_no_more : (may : Bool) (now n : ℕ) (p : Progress) → now ≤ n → weight_of_progress may n p ≤ weight_of_progress may now p

@@ -17,18 +17,12 @@ use Rattle.ccr_model.specs.Settling.{may_replicate, may_ack, may_resync}
 use Rattle.ccr_law_base.proofs.Cases.{AreFalse}
 use Rattle.ccr_law_core.proofs.Sets.{has-marked, has-marked_all, has-kept}
 use Rattle.ccr_law_base.proofs.Lists.{any-range}
-use Rattle.ccr_law_base.proofs.Tests.{itself, and_first, and_second}
+use Rattle.ccr_law_base.proofs.Tests.{itself, and_first, and_second, or_first}
 use Rattle.ccr_law_settle.specs.Measure.{total, passing, copy_lacks, replica_lacks, copies_lack}
 use Rattle.ccr_law_settle.proofs.Totals.{passing_fewer, passing_less, total_replaced}
-use Rattle.std.proofs.lemmas.Bool.{not-true}
+use Rattle.std.proofs.lemmas.Bool.{not-true, not_from_true, not_from_false}
 
 -- ---- tests
-
-pub not_of_true : (a : Bool) → a ≡ true → not a ≡ false
-not_of_true a is = rw is refl
-
-pub not_of_false : (a : Bool) → a ≡ false → not a ≡ true
-not_of_false a is = rw is refl
 
 -- where no refusal comes, the effect does
 pub guarded_passes : {S : Type 0} (s : S) (guards : List (Bool × Refusal)) (effect : Outcome S) → AreFalse guards → guarded s guards effect ≡ effect
@@ -43,13 +37,9 @@ pub marked_lacks : (count : ℕ) (seen : Numbers) (seq : ℕ) → seq < count �
     → passing (λ n. not (has (marked seen seq) n)) (range_with_len 0 count) < passing (λ n. not (has seen n)) (range_with_len 0 count)
 marked_lacks count seen seq below out =
     passing_less (λ n. not (has seen n)) (λ n. not (has (marked seen seq) n)) 0 count seq
-    (λ n lt is. not_of_false (has seen n) (left (has seen n) (seq == n) (sym (has-marked seen seq n) ∙ not-true (has (marked seen seq) n) is)))
-    (omega arith) (omega arith) (not_of_false (has seen seq) out)
-    (not_of_true (has (marked seen seq) seq) (has-marked seen seq seq ∙ rw out (itself seq)))
-  where
-    left : (a b : Bool) → (a || b) ≡ false → a ≡ false
-    left true b is = cc
-    left false b is = refl
+    (λ n lt is. not_from_false (has seen n) (or_first (has seen n) (seq == n) (sym (has-marked seen seq n) ∙ not-true (has (marked seen seq) n) is)))
+    (omega arith) (omega arith) (not_from_false (has seen seq) out)
+    (not_from_true (has (marked seen seq) seq) (has-marked seen seq seq ∙ rw out (itself seq)))
 
 -- one replica lacks less, and the primary no more
 pub replaced_lacks : (count copy : ℕ) (s : Copies) (r new : Replica) (global : ℕ) → replica_of s copy ≡ Some r → s.primary.global ≤ global
@@ -90,7 +80,7 @@ replicate_lowers count s copy seq low (Some r) at is =
       reply = replies.Done;
       replicas = replaced copy new s.replicas;
       global = s.primary.global;
-      is = guarded_passes _ _ _ (not_of_true r.resynced resynced, (not_of_true (has s.primary.seen seq) there, tt));
+      is = guarded_passes _ _ _ (not_from_true r.resynced resynced, (not_from_true (has s.primary.seen seq) there, tt));
       lower = replaced_lacks count copy s r new s.primary.global at (omega arith)
           (replica_less (passing (λ n. not (has (marked r.copy.seen seq) n)) (range_with_len 0 count)) (passing (λ n. not (has r.copy.seen n)) (range_with_len 0 count))
           (count - max r.copy.global s.primary.global) (count - r.copy.global) (count - r.known) _ _ fewer (omega arith));
@@ -113,7 +103,7 @@ ack_lowers count s copy (Some r) at within is =
       reply = replies.Acked (max s.primary.global (least_known s.primary.seen.count (replaced copy new s.replicas)));
       replicas = replaced copy new s.replicas;
       global = max s.primary.global (least_known s.primary.seen.count (replaced copy new s.replicas));
-      is = guarded_passes _ _ _ (not_of_true r.resynced resynced, tt);
+      is = guarded_passes _ _ _ (not_from_true r.resynced resynced, tt);
       lower = replaced_lacks count copy s r new _ at (omega arith)
           (ack_less (copy_lacks count r.copy) r.known r.copy.seen.count (if r.resynced then 0 else 1) r.acked bounds.0 bounds.1 late);
     }
@@ -133,7 +123,7 @@ resync_lowers count s copy whole (Some r) at is =
     let new : Replica = record r { copy = resynced_copy s mark r.copy; resynced = true } in
     let fewer : passing (λ n. not (has (resynced_copy s mark r.copy).seen n)) (range_with_len 0 count) ≤ passing (λ n. not (has r.copy.seen n)) (range_with_len 0 count)
     = passing_fewer (λ n. not (has r.copy.seen n)) (λ n. not (has (resynced_copy s mark r.copy).seen n)) 0 count
-    (λ n lt lacks. not_of_false (has r.copy.seen n)
+    (λ n lt lacks. not_from_false (has r.copy.seen n)
     (left n mark (omega arith) (sym (has-marked_all (kept_below r.copy.seen mark) (range_with_len mark (s.primary.seen.count - mark)) n) ∙ not-true (has (resynced_copy s mark r.copy).seen n) lacks))) in
     record {
       reply = replies.Resynced (held_from mark r.copy.store) (s.primary.seen.count - mark);

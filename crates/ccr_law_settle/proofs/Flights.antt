@@ -1,7 +1,7 @@
 -- What more messages in flight make of the measure.
 use Rattle.std.specs.List.{AllByRecursion, list_any}
 use Rattle.std.specs.Str.{bytes_eq}
-use Rattle.std.proofs.Common.{◌≡◌, ℕ, ◌+◌, ◌≤◌, ◌==◌, ◌&&◌, ◌||◌, Bool, true, false, if◌then◌else◌, List, [], ◌∷◌, ◌++◌, refl, ◌∙◌, arith}
+use Rattle.std.proofs.Common.{◌≡◌, ℕ, ◌+◌, ◌≤◌, ◌==◌, ◌&&◌, Bool, true, false, if◌then◌else◌, List, [], ◌∷◌, ◌++◌, refl, ◌∙◌, arith}
 use Rattle.std.proofs.lemmas.List.Folds.{list_any-append}
 use Rattle.ccr_wire.specs.Message.{Frame}
 use Rattle.ccr_model.specs.Requests.{Progress, on_its_way, waiting, held_back, is_sent}
@@ -11,11 +11,7 @@ use Rattle.ccr_model.specs.Leaders.{Session}
 use Rattle.ccr_model.specs.Followers.{Follower, Work, restoring, replicating, uuid_of}
 use Rattle.ccr_law_settle.specs.Measure.{total, passing, over_followers, opens_closed, is_gone, is_opened_in_vain, is_told_gone, is_in_vain, rank_of_stage, rank_of, is_idle_content, weight_of_progress, weight_of_stage, weight_of_work}
 use Rattle.ccr_law_settle.proofs.Totals.{le_itself, over_fewer, total_append}
-use Rattle.ccr_law_base.proofs.Tests.{and_false}
-
-or_none : (a : Bool) → (a || false) ≡ a
-or_none true = refl
-or_none false = refl
+use Rattle.ccr_law_base.proofs.Tests.{and_false, or_none}
 
 -- ---- ranks
 

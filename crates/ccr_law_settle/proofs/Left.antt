@@ -15,9 +15,10 @@ use Rattle.ccr_model.specs.Settling.{may_replicate, may_ack, may_sync, may_resyn
 use Rattle.ccr_model.specs.Past.{Past}
 use Rattle.ccr_law_core.specs.Cores.{Apart, IsReplica, IsCore}
 use Rattle.ccr_law_base.proofs.Lists.{All-weaker, All-both}
-use Rattle.ccr_law_base.proofs.Tests.{itself, other_turned}
+use Rattle.ccr_law_base.proofs.Tests.{itself, other_turned, or_first, or_second}
 use Rattle.ccr_law_core.proofs.Sets.{count_absent, or_false}
 use Rattle.ccr_law_settle.specs.Left.{NothingMayBeDone, IsLeaderSettled}
+use Rattle.std.proofs.lemmas.Bool.{not-false, ltb-false}
 
 -- each replica is found by its number
 pub found_itself : (rs : List Replica) → Apart rs → AllByRecursion (λ (r : Replica). find (λ (x : Replica). x.copy.number == r.copy.number) rs ≡ Some r) rs
@@ -41,37 +42,22 @@ record IsDone (count global : ℕ) (r : Replica) : Type 0 where
 done : (count : ℕ) (s : Copies) (r : Replica) → s.primary.seen ≡ record { count = count; above = [] } → IsCanonical r.copy.seen
     → may_resync s r ≡ false → may_ack s r ≡ false → may_sync s r ≡ false → ((seq : ℕ) → may_replicate seq s r ≡ false) → IsDone count s.primary.global r
 done count s r gapless canonical resync ack sync replicate =
-    let resynced : r.resynced ≡ true = yes r.resynced resync in
+    let resynced : r.resynced ≡ true = not-false r.resynced resync in
     let acks : (nat_lt r.known r.copy.seen.count || not r.acked) ≡ false = under r.resynced _ resynced ack in
     let syncs : (nat_lt r.copy.global s.primary.global || supersedes s.primary.leases r.copy.leases) ≡ false = under r.resynced _ resynced sync in
-    let known : r.copy.seen.count ≤ r.known = reached r.known r.copy.seen.count (left _ _ acks) in
-    let counted : count ≤ r.copy.seen.count = reached r.copy.seen.count count (primary_lacks (replicate r.copy.seen.count) resynced) in
+    let known : r.copy.seen.count ≤ r.known = ltb-false r.known r.copy.seen.count (or_first _ _ acks) in
+    let counted : count ≤ r.copy.seen.count = ltb-false r.copy.seen.count count (primary_lacks (replicate r.copy.seen.count) resynced) in
     record {
       resynced = resynced;
-      acked = yes r.acked (right _ _ acks);
+      acked = not-false r.acked (or_second _ _ acks);
       counted = counted;
       known = omega arith;
-      taught = reached r.copy.global s.primary.global (left _ _ syncs);
+      taught = ltb-false r.copy.global s.primary.global (or_first _ _ syncs);
     }
   where
-    yes : (a : Bool) → not a ≡ false → a ≡ true
-    yes true is = refl
-    yes false is = cc
-
     under : (a b : Bool) → a ≡ true → (a && b) ≡ false → b ≡ false
     under true b is both = both
     under false b is both = cc
-
-    left : (a b : Bool) → (a || b) ≡ false → a ≡ false
-    left true b is = cc
-    left false b is = refl
-
-    right : (a b : Bool) → (a || b) ≡ false → b ≡ false
-    right true b is = cc
-    right false b is = is
-
-    reached : (a b : ℕ) → nat_lt a b ≡ false → b ≤ a
-    reached a b isnt = grind (arith, nat_tests)
 
     three : (a b c : Bool) → a ≡ true → c ≡ false → ((a && b) && not c) ≡ false → b ≡ false
     three true true false first last is = cc

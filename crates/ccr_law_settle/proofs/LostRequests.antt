@@ -7,7 +7,7 @@ use Rattle.ccr_model.specs.Tasks.{Task, Read, changed_read, by_request, sent_rea
 use Rattle.ccr_model.specs.Restores.{ChunkAsked, changed_ask}
 use Rattle.ccr_law_base.proofs.Cases.{on_if}
 use Rattle.ccr_law_base.proofs.Lists.{All-weaker, All-both, All-filter, All-filter_test, All-at, All-by_request}
-use Rattle.ccr_law_base.proofs.Tests.{itself, other_turned}
+use Rattle.ccr_law_base.proofs.Tests.{itself, other_turned, or-more}
 use Rattle.ccr_law_settle.specs.Measure.{total, weight_of_progress}
 use Rattle.ccr_law_settle.specs.Within.{AreReadsApart, AreAsksApart}
 
@@ -143,14 +143,10 @@ lost_fewer_sent number request until (x ∷ asks) is =
     → (((number == x.request) && is_sent x.progress) || list_any (λ (a : ChunkAsked). (number == a.request) && is_sent a.progress) asks) ≡ true)
     (x.request == request) (with_later (waiting until) x ∷ asks) (x ∷ changed_ask request (with_later (waiting until)) asks)
     (λ here later. head ((number == x.request) && is_sent x.progress) (number == x.request) (list_any (λ (a : ChunkAsked). (number == a.request) && is_sent a.progress) asks) later)
-    (λ past later. tail ((number == x.request) && is_sent x.progress) _ (list_any (λ (a : ChunkAsked). (number == a.request) && is_sent a.progress) asks) (lost_fewer_sent number request until asks) later)
+    (λ past later. or-more ((number == x.request) && is_sent x.progress) _ (list_any (λ (a : ChunkAsked). (number == a.request) && is_sent a.progress) asks) (lost_fewer_sent number request until asks) later)
     is
   where
     head : (now same rest : Bool) → ((same && false) || rest) ≡ true → (now || rest) ≡ true
     head true same rest any = refl
     head false true rest any = any
     head false false rest any = any
-
-    tail : (now new rest : Bool) → (new ≡ true → rest ≡ true) → (now || new) ≡ true → (now || rest) ≡ true
-    tail true new rest step any = refl
-    tail false new rest step any = step any

@@ -6,7 +6,7 @@ use Rattle.std.proofs.Common.{◌≡◌, ℕ, ◌+◌, ◌<◌, ◌≤◌, ◌==
 use Rattle.std.proofs.lemmas.Bool.Decides.{nat_tests}
 use Rattle.std.proofs.lemmas.List.Folds.{list_any-append}
 use Rattle.ccr_wire.specs.Message.{Frame}
-use Rattle.ccr_model.specs.Requests.{on_its_way, is_due, is_sent, Sending}
+use Rattle.ccr_model.specs.Requests.{on_its_way, is_due, Sending}
 use Rattle.ccr_model.specs.Restores.{Restore, ChunkAsked, fetching, Fetch, without_ask, chunks_again}
 use Rattle.ccr_model.specs.Leaders.{Session}
 use Rattle.ccr_model.specs.Followers.{uuid_of}
@@ -14,12 +14,13 @@ use Rattle.ccr_law_base.proofs.Cases.{on_if}
 use Rattle.ccr_law_base.proofs.Lists.{All-weaker, All-both, some_equal}
 use Rattle.ccr_law_base.proofs.Tests.{itself, other_turned, or-more}
 use Rattle.ccr_law_settle.specs.Measure.{total, is_gone, is_told_gone, is_idle_content, weight_of_frame}
-use Rattle.ccr_law_settle.specs.Within.{AreAsksApart}
+use Rattle.ccr_law_settle.specs.Within.{AreAsksApart, has_number_of}
 use Rattle.ccr_law_settle.proofs.Totals.{total_append}
 use Rattle.ccr_law_settle.proofs.Flights.{IsPlain}
 use Rattle.ccr_law_settle.proofs.Syncing.{carries}
 use Rattle.ccr_law_settle.proofs.LostRequests.{ask_weight}
 use Rattle.ccr_law_settle.proofs.Due.{due_weighs}
+use Rattle.std.proofs.lemmas.Bool.{or_right}
 
 -- the first request of its number
 abbrev pub IsFirst : List ChunkAsked → ChunkAsked → Type 0
@@ -85,55 +86,51 @@ other_first number b (x ∷ asks) more other first =
 
 -- ---- who is told that a session is gone
 
-abbrev pub answered_by : ℕ → ChunkAsked → Bool
-answered_by request a = (request == a.request) && is_sent a.progress
-
-pub any_without : (number request : ℕ) (asks : List ChunkAsked) → list_any (answered_by request) (without_ask number asks) ≡ true → list_any (answered_by request) asks ≡ true
+pub any_without : (number request : ℕ) (asks : List ChunkAsked) → list_any (has_number_of request) (without_ask number asks) ≡ true → list_any (has_number_of request) asks ≡ true
 any_without number request [] any = cc
 any_without number request (x ∷ asks) any =
-    on_if (λ (xs : List ChunkAsked). list_any (answered_by request) xs ≡ true → (answered_by request x || list_any (answered_by request) asks) ≡ true)
+    on_if (λ (xs : List ChunkAsked). list_any (has_number_of request) xs ≡ true → (has_number_of request x || list_any (has_number_of request) asks) ≡ true)
     (x.request == number) asks (x ∷ without_ask number asks)
-    (λ here some. late (answered_by request x) (list_any (answered_by request) asks) some)
-    (λ past some. or-more (answered_by request x) (list_any (answered_by request) (without_ask number asks)) (list_any (answered_by request) asks) (any_without number request asks) some)
+    (λ here some. or_right (has_number_of request x) (list_any (has_number_of request) asks) some)
+    (λ past some. or-more (has_number_of request x) (list_any (has_number_of request) (without_ask number asks)) (list_any (has_number_of request) asks) (any_without number request asks) some)
     any
-  where
-    late : (a b : Bool) → b ≡ true → (a || b) ≡ true
-    late true b is = refl
-    late false b is = is
 
 -- no message with the follower's name has this number
 abbrev pub AreBelow : List Frame → ℕ → ℕ → Type 0
 AreBelow flight f next = AllByRecursion (λ (m : Frame). bytes_eq m.follower (uuid_of f) ≡ true → m.request < next) flight
 
-told_before : (flight : List Frame) (f next : ℕ) (a : ChunkAsked) (number : ℕ) (fetch : Fetch) → AreBelow flight f next
-    → is_told_gone flight f (record fetch { asks = without_ask number fetch.asks ++ record a { request = next; progress = on_its_way } ∷ [] }) ≡ true → is_told_gone flight f fetch ≡ true
-told_before [] f next a number fetch below told = cc
-told_before (m ∷ flight) f next a number fetch below told =
-    by (bytes_eq m.follower (uuid_of f)) (is_gone m.content)
-    (list_any (answered_by m.request) (without_ask number fetch.asks ++ new ∷ [])) (list_any (answered_by m.request) fetch.asks)
-    (is_told_gone flight f (record fetch { asks = without_ask number fetch.asks ++ new ∷ [] })) (is_told_gone flight f fetch)
-    (λ ours. this (below.0 ours)) (told_before flight f next a number fetch below.1) told
+-- what has a number that was drawn before answers none but a request that was there before
+pub answered_before : (n next : ℕ) (a : ChunkAsked) (asks : List ChunkAsked) → n < next
+    → list_any (has_number_of n) (asks ++ record a { request = next; progress = on_its_way } ∷ []) ≡ true → list_any (has_number_of n) asks ≡ true
+answered_before n next a asks lt any =
+    front (list_any (has_number_of n) asks) (n == next) (grind (arith, nat_tests))
+    (sym (list_any-append (has_number_of n) asks (record a { request = next; progress = on_its_way } ∷ [])) ∙ any)
   where
-    new : ChunkAsked
-    new = record a { request = next; progress = on_its_way }
-
     front : (a b : Bool) → b ≡ false → (a || ((b && true) || false)) ≡ true → a ≡ true
     front true b none any = refl
     front false false none any = cc
     front false true none any = cc
 
-    this : m.request < next → list_any (answered_by m.request) (without_ask number fetch.asks ++ new ∷ []) ≡ true → list_any (answered_by m.request) fetch.asks ≡ true
-    this lt any =
-        any_without number m.request fetch.asks (front (list_any (answered_by m.request) (without_ask number fetch.asks)) (m.request == next) (grind (arith, nat_tests))
-        (sym (list_any-append (answered_by m.request) (without_ask number fetch.asks) (new ∷ [])) ∙ any))
-
-    by : (ours gone now before rest left : Bool) → (ours ≡ true → now ≡ true → before ≡ true) → (rest ≡ true → left ≡ true)
-        → (((ours && gone) && now) || rest) ≡ true → (((ours && gone) && before) || left) ≡ true
-    by false gone now before rest left step more any = more any
-    by true false now before rest left step more any = more any
-    by true true true before rest left step more any = let e : before ≡ true = step refl refl in rw e refl
+pub told_less : (flight : List Frame) (f next : ℕ) (new old : Fetch) → AreBelow flight f next
+    → ((n : ℕ) → n < next → list_any (has_number_of n) new.asks ≡ true → list_any (has_number_of n) old.asks ≡ true) → is_told_gone flight f new ≡ true → is_told_gone flight f old ≡ true
+told_less [] f next new old below before told = cc
+told_less (m ∷ flight) f next new old below before told =
+    by (bytes_eq m.follower (uuid_of f)) (is_gone m.content) (list_any (has_number_of m.request) new.asks) (list_any (has_number_of m.request) old.asks) (is_told_gone flight f new) (is_told_gone flight f old)
+    (λ ours. before m.request (below.0 ours)) (told_less flight f next new old below.1 before) told
+  where
+    by : (ours gone now was rest left : Bool) → (ours ≡ true → now ≡ true → was ≡ true) → (rest ≡ true → left ≡ true)
+        → (((ours && gone) && now) || rest) ≡ true → (((ours && gone) && was) || left) ≡ true
+    by false gone now was rest left step more any = more any
+    by true false now was rest left step more any = more any
+    by true true true was rest left step more any = let e : was ≡ true = step refl refl in rw e refl
     by true true false true rest left step more any = refl
     by true true false false rest left step more any = more any
+
+told_before : (flight : List Frame) (f next : ℕ) (a : ChunkAsked) (number : ℕ) (fetch : Fetch) → AreBelow flight f next
+    → is_told_gone flight f (record fetch { asks = without_ask number fetch.asks ++ record a { request = next; progress = on_its_way } ∷ [] }) ≡ true → is_told_gone flight f fetch ≡ true
+told_before flight f next a number fetch below =
+    told_less flight f next (record fetch { asks = without_ask number fetch.asks ++ record a { request = next; progress = on_its_way } ∷ [] }) fetch below
+    (λ n lt any. any_without number n fetch.asks (answered_before n next a (without_ask number fetch.asks) lt any))
 
 -- ---- all of them
 
@@ -226,9 +223,5 @@ each_carried uuid [] named = tt
 each_carried uuid (m ∷ sent) named = (
   rw named.0 (rw (itself m.request) refl),
   All-weaker (λ (x : Frame). list_any (carries uuid x.request) sent ≡ true) (λ (x : Frame). list_any (carries uuid x.request) (m ∷ sent) ≡ true)
-      (λ x is. late (carries uuid x.request m) (list_any (carries uuid x.request) sent) is) sent (each_carried uuid sent named.1),
+      (λ x is. or_right (carries uuid x.request m) (list_any (carries uuid x.request) sent) is) sent (each_carried uuid sent named.1),
 )
-  where
-    late : (a b : Bool) → b ≡ true → (a || b) ≡ true
-    late true b is = refl
-    late false b is = is

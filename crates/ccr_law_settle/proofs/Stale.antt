@@ -27,7 +27,7 @@ use Rattle.ccr_law_settle.proofs.Waking.{waits}
 use Rattle.ccr_law_settle.proofs.Taken.{total_remove, any_remove, ranks_left}
 use Rattle.ccr_law_settle.proofs.Delivering.{primary_found}
 use Rattle.ccr_law_settle.proofs.Gone.{over_each}
-use Rattle.ccr_law_base.proofs.Tests.{or_second}
+use Rattle.ccr_law_base.proofs.Tests.{or_second, and_false, or_first}
 use Rattle.std.proofs.lemmas.Bool.{both_ways}
 use Rattle.std.proofs.lemmas.List.{append-nil}
 
@@ -52,15 +52,7 @@ turned a b true is = let e : (a == b) ≡ false = alone (a == b) is in let other
     alone : (a : Bool) → (a && true) ≡ false → a ≡ false
     alone true is = cc
     alone false is = refl
-turned a b false is = none (b == a)
-  where
-    none : (a : Bool) → (a && false) ≡ false
-    none true = refl
-    none false = refl
-
-or_first : (a b : Bool) → (a || b) ≡ false → a ≡ false
-or_first true b is = cc
-or_first false b is = refl
+turned a b false is = and_false (b == a)
 
 all_unsent : {X : Type 0} (request : X → ℕ) (progress : X → Progress) (n : ℕ) (new old : ℕ → Bool) (now : ℕ) (xs : List X) → StillAnswered n new old
     → list_any (λ x. (request x == n) && is_sent (progress x)) xs ≡ false

@@ -26,7 +26,7 @@ use Rattle.ccr_law_settle.proofs.Ticking.{none_ahead}
 use Rattle.ccr_law_settle.proofs.Stale.{left}
 use Rattle.ccr_law_settle.proofs.Hearing.{rank_lower, hearing_delivered}
 use Rattle.ccr_law_settle.proofs.Answering.{any_step}
-use Rattle.std.proofs.lemmas.Bool.{and_parts}
+use Rattle.std.proofs.lemmas.Bool.{and_parts, or_right}
 
 -- ---- the bootstrap asks for a session
 
@@ -50,11 +50,7 @@ heard_fetching r f a _ is = cc
 pub any_at : {X : Type 0} (test : X → Bool) (xs : List X) (n : ℕ) (x : X) → slice_get xs n ≡ Some x → test x ≡ true → list_any test xs ≡ true
 any_at test [] n x at is = cc
 any_at test (y ∷ xs) zero x at is = let e : test y ≡ true = subst (λ z. test z ≡ true) (sym (some_equal y x at)) is in rw e refl
-any_at test (y ∷ xs) (suc n) x at is = late (test y) (list_any test xs) (any_at test xs n x at is)
-  where
-    late : (a b : Bool) → b ≡ true → (a || b) ≡ true
-    late true b is = refl
-    late false b is = is
+any_at test (y ∷ xs) (suc n) x at is = or_right (test y) (list_any test xs) (any_at test xs n x at is)
 
 -- the follower is about to learn that its session is gone
 told_gone : (s : State) (at : ℕ) (m : Frame) (f : ℕ) (fetch : Fetch) → slice_get s.flight at ≡ Some m → bytes_eq m.follower (uuid_of f) ≡ true → is_gone m.content ≡ true

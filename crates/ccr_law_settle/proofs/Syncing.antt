@@ -31,10 +31,11 @@ use Rattle.ccr_law_base.proofs.Lists.{All-map, All-every}
 use Rattle.ccr_law_settle.specs.Measure.{total, passing, copy_lacks, replica_lacks, copies_lack, follower_lacks, work_lacks, over_followers, rank_of, idle_of, underway_of, leases_of, lacking_of, old_leases, old_peeks, opens_closed, is_gone, is_idle_content, weight_of_frame, weight_of_work, IsLess, IsLower}
 use Rattle.ccr_law_settle.specs.Within.{IsWithin}
 use Rattle.ccr_law_settle.proofs.Totals.{total_replaced, le_itself, over_set_same, over_set_less, total_append}
-use Rattle.ccr_law_settle.proofs.CopyRows.{not_of_true, guarded_passes}
+use Rattle.ccr_law_settle.proofs.CopyRows.{guarded_passes}
 use Rattle.ccr_law_settle.proofs.Flights.{IsPlain, ranks_more, idle_more, works_fewer}
 use Rattle.ccr_law_base.proofs.Tests.{and_first, and_second}
 use Rattle.std.proofs.lemmas.List.{append-nil}
+use Rattle.std.proofs.lemmas.Bool.{not_from_true}
 
 -- what a sync comes to: less is lacking, or no more is and fewer leases are old
 pub record Syncs (count : ℕ) (s : Copies) (o : Outcome Copies) : Type 0 where
@@ -68,7 +69,7 @@ sync_lowers count s copy low None at is = cc
 sync_lowers count s copy low (Some r) at is =
     record {
       replicas = replaced copy new s.replicas;
-      is = guarded_passes _ _ _ (not_of_true r.resynced (and_first r.resynced (nat_lt r.copy.global s.primary.global || supersedes s.primary.leases r.copy.leases) is), tt);
+      is = guarded_passes _ _ _ (not_from_true r.resynced (and_first r.resynced (nat_lt r.copy.global s.primary.global || supersedes s.primary.leases r.copy.leases) is), tt);
       no_more =
           (let sums : total (replica_lacks count) (replaced copy new s.replicas) + replica_lacks count r ≡ total (replica_lacks count) s.replicas + replica_lacks count new
           = total_replaced (replica_lacks count) copy new r s.replicas at in

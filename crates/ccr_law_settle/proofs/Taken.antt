@@ -12,6 +12,7 @@ use Rattle.ccr_law_base.proofs.Lists.{some_equal, drop-zero}
 use Rattle.ccr_law_base.proofs.Tests.{or-more}
 use Rattle.ccr_law_settle.specs.Measure.{total, over_followers, opens_closed, is_gone, is_opened_in_vain, is_told_gone, is_in_vain, rank_of_stage, rank_of}
 use Rattle.ccr_law_settle.proofs.Totals.{over_fewer}
+use Rattle.std.proofs.lemmas.Bool.{or_right}
 
 pub total_remove : {X : Type 0} (amount : X → ℕ) (xs : List X) (n : ℕ) (x : X) → slice_get xs n ≡ Some x → total amount (remove xs n) + amount x ≡ total amount xs
 total_remove amount [] n x at = cc
@@ -39,11 +40,7 @@ any_remove test (y ∷ xs) (suc n) x at any = past (test y) (list_any test xs) (
 pub any_left : {X : Type 0} (test : X → Bool) (xs : List X) (n : ℕ) → list_any test (remove xs n) ≡ true → list_any test xs ≡ true
 any_left test [] zero any = cc
 any_left test [] (suc n) any = cc
-any_left test (y ∷ xs) zero any = late (test y) (list_any test xs) (subst (λ (zs : List _). list_any test zs ≡ true) (drop-zero xs) any)
-  where
-    late : (a b : Bool) → b ≡ true → (a || b) ≡ true
-    late true b is = refl
-    late false b is = is
+any_left test (y ∷ xs) zero any = or_right (test y) (list_any test xs) (subst (λ (zs : List _). list_any test zs ≡ true) (drop-zero xs) any)
 any_left test (y ∷ xs) (suc n) any = or-more (test y) (list_any test (remove xs n)) (list_any test xs) (any_left test xs n) any
 
 -- ---- ranks

@@ -21,7 +21,7 @@ use Rattle.ccr_model.specs.Step.{step}
 use Rattle.ccr_model.specs.Settling.{may_be_answered, waits_in, waits_in_stage, may_tick, may_act}
 use Rattle.ccr_law_base.proofs.Cases.{on_if}
 use Rattle.ccr_law_base.proofs.Lists.{All-weaker, All-filter, All-filter_test}
-use Rattle.ccr_law_base.proofs.Tests.{itself}
+use Rattle.ccr_law_base.proofs.Tests.{itself, or-more}
 use Rattle.ccr_law_settle.specs.Measure.{total, passing, over_followers, opens_closed, is_opened_in_vain, is_told_gone, is_in_vain, is_idle_content, weight_of_frame, weight_of_work, rank_of, work_lacks, follower_lacks, old_peeks, underway_of, IsLower}
 use Rattle.ccr_law_settle.specs.Within.{IsFresh, AreAsksApart, AreStageApart, AreRequestsApart}
 use Rattle.ccr_law_settle.proofs.Totals.{total_append, over_set, over_set_same}
@@ -210,16 +210,12 @@ fetching_resends s f base r fetch named below apart due =
       plain = repeats.plain;
       busy = repeats.busy;
       rank = choice_lower (is_in_vain s.flight s.leader.sessions f (record fetch { asks = repeats.asks })) (is_in_vain s.flight s.leader.sessions f fetch) 1 3 (omega arith)
-          (step (is_none (session_of s.leader.sessions fetch.session)) (is_told_gone s.flight f (record fetch { asks = repeats.asks })) (is_told_gone s.flight f fetch) repeats.told);
+          (or-more (is_none (session_of s.leader.sessions fetch.session)) (is_told_gone s.flight f (record fetch { asks = repeats.asks })) (is_told_gone s.flight f fetch) repeats.told);
       lacks = (let e : length repeats.asks ≡ length fetch.asks = repeats.many in omega arith);
       peeks = omega arith;
       weight = fewer_then _ _ _ _ repeats.weight (some_left base.now fetch.asks due);
     })
   where
-    step : (a c d : Bool) → (c ≡ true → d ≡ true) → (a || c) ≡ true → (a || d) ≡ true
-    step true c d more is = refl
-    step false c d more is = more is
-
     dues : List ChunkAsked
     dues = filter (λ (a : ChunkAsked). is_due base.now a.progress) fetch.asks
 

@@ -22,11 +22,11 @@ use Rattle.ccr_law_settle.specs.Within.{AreAsksApart, AreStageApart, AreRequests
 use Rattle.ccr_law_settle.specs.Lowering.{Lowers}
 use Rattle.ccr_law_settle.proofs.Taken.{choice_lower}
 use Rattle.ccr_law_settle.proofs.Saying.{delivered}
-use Rattle.ccr_law_settle.proofs.Repeating.{IsFirst, each_first, length_without, any_without, AreBelow}
+use Rattle.ccr_law_settle.proofs.Repeating.{IsFirst, each_first, length_without, any_without, AreBelow, told_less}
 use Rattle.ccr_law_settle.proofs.Stale.{left}
 use Rattle.ccr_law_settle.proofs.Framing.{requests_apart, fresh_at, own_name}
 use Rattle.ccr_law_settle_fetches.specs.FetchLowering.{IsForRestore, IsAnswerToOpening, IsAnswerToPart, FetchesLower}
-use Rattle.ccr_law_settle_fetches.proofs.Parts.{AsksFor, next_parts, more_asked, some_of_rest, one_less_lacking, told_less, none_told}
+use Rattle.ccr_law_settle_fetches.proofs.Parts.{AsksFor, next_parts, more_asked, some_of_rest, one_less_lacking, none_told}
 use Rattle.ccr_law_settle.proofs.Steps.{any_at}
 use Rattle.ccr_law_settle.proofs.Hearing.{hearing_delivered, lacking_lower, rank_lower}
 use Rattle.ccr_law_settle_fetches.proofs.Hearing.{done_lower}

@@ -1,9 +1,7 @@
 -- A bootstrap that asks for the next parts of its files: of the files it lacks as much as before, and it waits for no old number that it didn't wait for.
 use Rattle.std.specs.List.{AllByRecursion, list_any}
 use Rattle.std.specs.Str.{bytes_eq}
-use Rattle.std.proofs.Common.{◌≡◌, ℕ, suc, ◌+◌, ◌-◌, ◌<◌, ◌≤◌, ◌==◌, ◌&&◌, ◌||◌, min, Bool, true, false, List, [], ◌∷◌, ◌++◌, length, take, drop, refl, sym, ◌∙◌, arith, length-take, length-drop}
-use Rattle.std.proofs.lemmas.Bool.Decides.{nat_tests}
-use Rattle.std.proofs.lemmas.List.Folds.{list_any-append}
+use Rattle.std.proofs.Common.{◌≡◌, ℕ, suc, ◌+◌, ◌-◌, ◌<◌, ◌≤◌, ◌&&◌, min, true, false, List, [], ◌∷◌, ◌++◌, length, take, drop, refl, arith, length-take, length-drop}
 use Rattle.ccr_wire.specs.Message.{Frame}
 use Rattle.ccr_model.specs.Requests.{on_its_way, Sending}
 use Rattle.ccr_model.specs.Restores.{Restore, ChunkAsked, fetching, Fetch, places_of, asks_chunks, most_asks, asks_more}
@@ -11,7 +9,9 @@ use Rattle.ccr_model.specs.Leaders.{Session}
 use Rattle.ccr_model.specs.Followers.{uuid_of}
 use Rattle.ccr_law_settle.specs.Measure.{is_gone, is_told_gone}
 use Rattle.ccr_law_settle.proofs.Flights.{IsPlain}
-use Rattle.ccr_law_settle.proofs.Repeating.{pushed_length, answered_by, AreBelow}
+use Rattle.ccr_law_settle.specs.Within.{has_number_of}
+use Rattle.ccr_law_settle.proofs.Repeating.{pushed_length, answered_before}
+use Rattle.ccr_law_base.proofs.Tests.{and_false}
 
 -- ---- the parts are asked for
 
@@ -23,20 +23,8 @@ pub record AsksFor (sessions : List Session) (r : Restore) (fetch : Fetch) (part
   pub is : done.next ≡ record r { next_request = next_request; stage = fetching (record fetch { asked = asked; asks = asks }) }
   pub further : asked ≡ fetch.asked + parts
   pub many : length asks ≡ length fetch.asks + parts
-  pub before : (n : ℕ) → n < r.next_request → list_any (answered_by n) asks ≡ true → list_any (answered_by n) fetch.asks ≡ true
+  pub before : (n : ℕ) → n < r.next_request → list_any (has_number_of n) asks ≡ true → list_any (has_number_of n) fetch.asks ≡ true
   pub plain : AllByRecursion (IsPlain sessions) done.sent
-
--- what has a number that was drawn before answers none but a request that was there before
-pub answered_before : (n next : ℕ) (a : ChunkAsked) (asks : List ChunkAsked) → n < next
-    → list_any (answered_by n) (asks ++ record a { request = next; progress = on_its_way } ∷ []) ≡ true → list_any (answered_by n) asks ≡ true
-answered_before n next a asks lt any =
-    front (list_any (answered_by n) asks) (n == next) (grind (arith, nat_tests))
-    (sym (list_any-append (answered_by n) asks (record a { request = next; progress = on_its_way } ∷ [])) ∙ any)
-  where
-    front : (a b : Bool) → b ≡ false → (a || ((b && true) || false)) ≡ true → a ≡ true
-    front true b none any = refl
-    front false false none any = cc
-    front false true none any = cc
 
 further_then : (asked one parts old : ℕ) → asked ≡ one + parts → one ≡ old + 1 → asked ≡ old + suc parts
 further_then asked one parts old a b = omega arith
@@ -100,26 +88,7 @@ one_less_lacking all asked further parts without many old few a b c = omega arit
 
 -- ---- who is told that a session is gone
 
-pub told_less : (flight : List Frame) (f next : ℕ) (new old : Fetch) → AreBelow flight f next
-    → ((n : ℕ) → n < next → list_any (answered_by n) new.asks ≡ true → list_any (answered_by n) old.asks ≡ true) → is_told_gone flight f new ≡ true → is_told_gone flight f old ≡ true
-told_less [] f next new old below before told = cc
-told_less (m ∷ flight) f next new old below before told =
-    by (bytes_eq m.follower (uuid_of f)) (is_gone m.content) (list_any (answered_by m.request) new.asks) (list_any (answered_by m.request) old.asks) (is_told_gone flight f new) (is_told_gone flight f old)
-    (λ ours. before m.request (below.0 ours)) (told_less flight f next new old below.1 before) told
-  where
-    by : (ours gone now was rest left : Bool) → (ours ≡ true → now ≡ true → was ≡ true) → (rest ≡ true → left ≡ true)
-        → (((ours && gone) && now) || rest) ≡ true → (((ours && gone) && was) || left) ≡ true
-    by false gone now was rest left step more any = more any
-    by true false now was rest left step more any = more any
-    by true true true was rest left step more any = let e : was ≡ true = step refl refl in rw e refl
-    by true true false true rest left step more any = refl
-    by true true false false rest left step more any = more any
-
 -- no message tells anything of a fetch that waits for nothing
 pub none_told : (flight : List Frame) (f : ℕ) (fetch : Fetch) → is_told_gone flight f (record fetch { asks = [] }) ≡ false
 none_told [] f fetch = refl
-none_told (m ∷ flight) f fetch = rw (none (bytes_eq m.follower (uuid_of f) && is_gone m.content)) (none_told flight f fetch)
-  where
-    none : (a : Bool) → (a && false) ≡ false
-    none true = refl
-    none false = refl
+none_told (m ∷ flight) f fetch = rw (and_false (bytes_eq m.follower (uuid_of f) && is_gone m.content)) (none_told flight f fetch)

@@ -1,8 +1,8 @@
 -- The copies of a follower whose active task has nothing to write and reads from the history's count on alone: where nothing may be done with them, they are whole.
 use Rattle.std.specs.List.{AllByRecursion, list_all, filter, count_by, flat_map}
 use Rattle.std.specs.Option.{option_map_or}
-use Rattle.std.proofs.Common.{◌≡◌, ℕ, ◌+◌, ◌≤◌, ◌<◌, ◌==◌, ◌&&◌, ◌||◌, not, nat_lt, nat_le, Bool, true, false, Option, Some, List, [], ◌∷◌, map, refl, sym, ◌∙◌, ap, subst, arith}
-use Rattle.std.proofs.lemmas.Bool.{lt-ltb}
+use Rattle.std.proofs.Common.{◌≡◌, ℕ, ◌+◌, ◌≤◌, ◌<◌, ◌==◌, ◌&&◌, not, nat_lt, nat_le, Bool, true, false, Option, Some, List, [], ◌∷◌, map, refl, sym, ◌∙◌, ap, subst, arith}
+use Rattle.std.proofs.lemmas.Bool.{lt-ltb, ltb-false}
 use Rattle.std.proofs.lemmas.Bool.Decides.{nat_tests}
 use Rattle.ccr_op.specs.Operation.{Operation}
 use Rattle.ccr_tracker.specs.Numbers.{Numbers, has}
@@ -21,6 +21,7 @@ use Rattle.ccr_law_tasks.proofs.Sums.{one_if, count-cons}
 use Rattle.ccr_law_followers.specs.TrueCopies.{CopyOk, ReplicaOk, FollowerOk}
 use Rattle.ccr_law_settle_left.specs.FollowersLeft.{HasNothingToWrite}
 use Rattle.ccr_law_settle_left.proofs.ByNumber.{each_found}
+use Rattle.ccr_law_base.proofs.Tests.{or_first}
 
 -- ---- the write of each number of the epoch ended
 
@@ -111,21 +112,14 @@ pub record IsRepliedTo (count global : ℕ) (r : Replica) : Type 0 where
 replied_to : (count : ℕ) (s : Copies) (r : Replica) → r.resynced ≡ true → count ≤ r.copy.seen.count → r.copy.global ≤ s.primary.global → may_ack s r ≡ false → may_sync s r ≡ false
     → IsRepliedTo count s.primary.global r
 replied_to count s r resynced counted behind ack sync =
-    let known : r.copy.seen.count ≤ r.known = reached r.known r.copy.seen.count (left (nat_lt r.known r.copy.seen.count) (not r.acked) (under r.resynced _ resynced ack)) in
+    let known : r.copy.seen.count ≤ r.known = ltb-false r.known r.copy.seen.count (or_first (nat_lt r.known r.copy.seen.count) (not r.acked) (under r.resynced _ resynced ack)) in
     let taught : s.primary.global ≤ r.copy.global
-    = reached r.copy.global s.primary.global (left (nat_lt r.copy.global s.primary.global) (supersedes s.primary.leases r.copy.leases) (under r.resynced _ resynced sync)) in
+    = ltb-false r.copy.global s.primary.global (or_first (nat_lt r.copy.global s.primary.global) (supersedes s.primary.leases r.copy.leases) (under r.resynced _ resynced sync)) in
     record { counted = counted; known = omega arith; taught = omega arith }
   where
     under : (a b : Bool) → a ≡ true → (a && b) ≡ false → b ≡ false
     under true b is both = both
     under false b is both = cc
-
-    left : (a b : Bool) → (a || b) ≡ false → a ≡ false
-    left true b is = cc
-    left false b is = refl
-
-    reached : (a b : ℕ) → nat_lt a b ≡ false → b ≤ a
-    reached a b isnt = grind (arith, nat_tests)
 
 least_reaches : (count global own : ℕ) (rs : List Replica) → count ≤ own → AllByRecursion (IsRepliedTo count global) rs → count ≤ least_known own rs
 least_reaches count global own [] le all = le

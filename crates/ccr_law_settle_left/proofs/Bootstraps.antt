@@ -2,7 +2,7 @@
 use Rattle.std.specs.List.{AllByRecursion}
 use Rattle.std.specs.Prelude.{slice_get}
 use Rattle.std.specs.Option.{option_map_or}
-use Rattle.std.proofs.Common.{◌≡◌, ℕ, ◌≤◌, not, Bool, true, false, Option, Some, None, List, [], ◌∷◌, length, refl, ap, ◌∙◌, subst, arith}
+use Rattle.std.proofs.Common.{◌≡◌, ℕ, ◌≤◌, not, true, false, Option, Some, None, List, [], ◌∷◌, length, refl, ap, ◌∙◌, subst, arith}
 use Rattle.ccr_journal.specs.declared.sides.Side.TheVariants as sides
 use Rattle.ccr_journal.specs.declared.events.Event.TheVariants as events
 use Rattle.ccr_model.specs.Requests.{is_sent}
@@ -23,6 +23,7 @@ use Rattle.ccr_law_settle_left.specs.FollowersLeft.{IsGroundOfSettling, IsStill,
 use Rattle.ccr_law_settle_left.proofs.ByNumber.{each_found}
 use Rattle.ccr_law_settle_left.proofs.Outstanding.{IsSentOrHeld, sent_or_held}
 use Rattle.ccr_law_settle_left.proofs.Unanswered.{HaveLeases, same_leases, unanswered}
+use Rattle.std.proofs.lemmas.Bool.{not-false}
 
 -- ---- what a bootstrap waits for
 
@@ -70,12 +71,8 @@ have_leases p ground still = each_found (IsTrueReplica p) (λ (r : Replica). r.c
 -- a request that may not be lost may still be answered
 may_come : (s : State) (f at request : ℕ) (own : Follower) → slice_get s.followers f ≡ Some own → request_at own.work at ≡ Some request → may_lose s f at ≡ false
     → may_be_answered s (uuid_of f) request ≡ true
-may_come s f at request own there is stays = yes (may_be_answered s (uuid_of f) request) here
+may_come s f at request own there is stays = not-false (may_be_answered s (uuid_of f) request) here
   where
-    yes : (b : Bool) → not b ≡ false → b ≡ true
-    yes true none = refl
-    yes false none = cc
-
     here : not (may_be_answered s (uuid_of f) request) ≡ false
     here =
         subst (λ (o : Option ℕ). option_map_or (λ (n : ℕ). not (may_be_answered s (uuid_of f) n)) o false ≡ false) is

@@ -13,6 +13,7 @@ use Rattle.ccr_model.specs.World.{State}
 use Rattle.ccr_model.specs.Settling.{may_resync, may_sync, may_be_answered}
 use Rattle.ccr_law_kinds.specs.Purposes.{Purpose, for_read, awaited, Agree}
 use Rattle.ccr_law_parked.specs.Parked.{AreKeptRightly}
+use Rattle.std.proofs.lemmas.Bool.{or_from}
 
 -- ---- kept requests
 
@@ -73,13 +74,9 @@ no_poll_answers : (work : Work) (uuid : List ℕ) (request : ℕ) (purpose : Pur
     → list_any (λ (p : Poll). bytes_eq p.follower uuid && (p.request == request)) polls ≡ false
 no_poll_answers work uuid request purpose waits other [] alike = refl
 no_poll_answers work uuid request purpose waits other (p ∷ polls) alike =
-    neither (bytes_eq p.follower uuid && (p.request == request)) (list_any (λ (p : Poll). bytes_eq p.follower uuid && (p.request == request)) polls)
+    or_from (bytes_eq p.follower uuid && (p.request == request)) (list_any (λ (p : Poll). bytes_eq p.follower uuid && (p.request == request)) polls)
     (not_both (bytes_eq p.follower uuid) (p.request == request) refl refl) (no_poll_answers work uuid request purpose waits other polls alike.1)
   where
-    neither : (a b : Bool) → a ≡ false → b ≡ false → (a || b) ≡ false
-    neither true b first rest = cc
-    neither false b first rest = rest
-
     not_both : (a b : Bool) → bytes_eq p.follower uuid ≡ a → (p.request == request) ≡ b → (a && b) ≡ false
     not_both false b named same = refl
     not_both true false named same = refl

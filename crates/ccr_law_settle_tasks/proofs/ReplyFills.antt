@@ -1,7 +1,7 @@
 -- A task that is filled lacks less, or it has asked for no more and has no more old peeks; and what it sends are requests for operations.
 use Rattle.std.specs.List.{AllByRecursion}
 use Rattle.std.specs.Prelude.{filter}
-use Rattle.std.proofs.Common.{◌≡◌, ◌⊎◌, inl, inr, ℕ, zero, suc, ◌+◌, ◌-◌, ◌<◌, ◌≤◌, ◌==◌, ◌&&◌, min, Bool, true, false, nat_lt, List, [], ◌∷◌, ◌++◌, length, refl, sym, ◌∙◌, subst, arith}
+use Rattle.std.proofs.Common.{◌≡◌, ◌⊎◌, inl, inr, ℕ, zero, suc, ◌+◌, ◌-◌, ◌<◌, ◌≤◌, ◌==◌, ◌&&◌, min, true, false, nat_lt, List, [], ◌∷◌, ◌++◌, length, refl, sym, ◌∙◌, subst, arith}
 use Rattle.std.proofs.lemmas.Bool.Decides.{nat_tests}
 use Rattle.ccr_wire.specs.Message.{Frame}
 use Rattle.ccr_model.specs.Operations.{is_empty}
@@ -17,6 +17,7 @@ use Rattle.ccr_law_settle.proofs.LostRequests.{total_changed_read}
 use Rattle.ccr_law_settle.proofs.Filling.{Fills, fills_quietly, fills_then, batches_lack, again_fills, read_fills}
 use Rattle.ccr_law_settle_tasks.proofs.ReplyReads.{peek_below}
 use Rattle.ccr_law_base.proofs.Tests.{and_second}
+use Rattle.std.proofs.lemmas.Bool.{and_right}
 
 -- the task asked for no more, and has no more old peeks
 pub record StandsStill (t new : Task) : Type 0 where
@@ -93,12 +94,8 @@ peek_stays t asked =
     let new : peek_below t.next r ≡ 0 = none r in
     record { next = refl; peeks = no_more _ _ _ sums new }
   where
-    neither : (a b : Bool) → b ≡ false → (a && b) ≡ false
-    neither true b is = is
-    neither false b is = refl
-
     none : (r : Read) → peek_below r.from r ≡ 0
-    none r = rw (neither (r.from == r.to) (nat_lt r.from r.from) (grind (arith, nat_tests))) refl
+    none r = rw (and_right (r.from == r.to) (nat_lt r.from r.from) (grind (arith, nat_tests))) refl
 
     no_more : (new old one : ℕ) → new ≡ old + (one + 0) → one ≡ 0 → new ≤ old
     no_more new old one a b = omega arith

@@ -7,6 +7,7 @@ use Rattle.ccr_model.specs.Tasks.{Task, Read, Write, is_active, may_read, has_bu
 use Rattle.ccr_model.specs.TaskFacts.{IsSaturated}
 use Rattle.ccr_law_base.proofs.Cases.{on_if}
 use Rattle.ccr_law_settle_tasks.proofs.TickReads.{NoneHeld}
+use Rattle.ccr_law_base.proofs.Tests.{and_false}
 
 -- ---- its parts
 
@@ -59,13 +60,9 @@ no_peek t s = by (has_budget t) refl
     peek : Sending Task
     peek = with_read t t.next t.next t.params.max_read_request_operation_count
 
-    never : (a : Bool) → (a && false) ≡ false
-    never true = refl
-    never false = refl
-
     by : (b : Bool) → has_budget t ≡ b → fill_peek t ≡ quiet t
     by true has = ap (λ (b : Bool). if b && has_budget t then peek else quiet t) (some_read t.reads (s.one has))
-    by false hasnt = ap (λ (b : Bool). if is_empty t.reads && b then peek else quiet t) hasnt ∙ ap (λ (b : Bool). if b then peek else quiet t) (never (is_empty t.reads))
+    by false hasnt = ap (λ (b : Bool). if is_empty t.reads && b then peek else quiet t) hasnt ∙ ap (λ (b : Bool). if b then peek else quiet t) (and_false (is_empty t.reads))
 
 -- ---- all of it
 

@@ -11,7 +11,7 @@ use Rattle.ccr_model.specs.Copies.{not_ready}
 use Rattle.ccr_model.specs.Followers.{Follower, uuid_of}
 use Rattle.ccr_model.specs.World.{State, goes_to_leader, follower_of}
 use Rattle.ccr_law_base.proofs.Lists.{All-at, some_equal}
-use Rattle.ccr_law_base.proofs.Tests.{by_test}
+use Rattle.ccr_law_base.proofs.Tests.{by_test, and_second}
 use Rattle.ccr_law_kinds.specs.Purposes.{about, awaited, Agree, HasPurposes}
 use Rattle.ccr_model.specs.Step.{step}
 use Rattle.ccr_law_settle.specs.Measure.{IsLower}
@@ -22,12 +22,8 @@ use Rattle.ccr_law_settled.proofs.Awaited.{DeliveriesLower, work_answered}
 -- ---- to the leader
 
 is_ready : (s : State) (a b c : Bool) → (((a && b) && c) && is_none (not_ready s.leader.copies)) ≡ true → not_ready s.leader.copies ≡ None
-is_ready s a b c may = none (not_ready s.leader.copies) (last ((a && b) && c) (is_none (not_ready s.leader.copies)) may)
+is_ready s a b c may = none (not_ready s.leader.copies) (and_second ((a && b) && c) (is_none (not_ready s.leader.copies)) may)
   where
-    last : (a b : Bool) → (a && b) ≡ true → b ≡ true
-    last true b is = is
-    last false b is = cc
-
     none : (o : Option ℕ) → is_none o ≡ true → o ≡ None
     none None is = refl
     none (Some n) is = cc

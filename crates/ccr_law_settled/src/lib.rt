@@ -12,11 +12,13 @@
 #![tactic(auto)]
 
 ghost use Rattle.ccr_law.specs.Journals.{AlwaysHolds};
-ghost use Rattle.ccr_law_settled.specs.Settles.{EachLowers, NoneIsLeft};
+ghost use Rattle.ccr_law_settled.specs.Settles.{IsFull, EachLowers, NoneIsLeft};
 
 /// At every place of every fit and legal journal, each event that settling may use makes the measure smaller, and where
-/// there is none the world is settled.
+/// there is none the world is settled. What both rest on holds there, too: the invariants of the theorem, and what
+/// `ccr_law_kinds`, `ccr_law_known`, `ccr_law_parked` and `ccr_law_pending` say.
 pub fn settling()
+    ensures grounds { AlwaysHolds IsFull }
     ensures lowers { AlwaysHolds EachLowers }
     ensures settled { AlwaysHolds NoneIsLeft }
 {}

@@ -6,7 +6,7 @@ use Rattle.std.proofs.Common.{◌≡◌, ℕ, suc, ◌+◌, ◌-◌, ◌*◌, �
 use Rattle.std.proofs.lemmas.Bool.Decides.{nat_tests}
 use Rattle.std.proofs.lemmas.Str.{IsUtf8-append, IsUtf8-encode, IsUtf8-take, IsUtf8-drop, IsCharBoundary-before_ascii, IsCharBoundary-after_ascii, encode_ascii}
 use Rattle.json.specs.Text.{code_unit, short_escape, is_high_surrogate, is_low_surrogate, surrogate_pair, Within, plain, after_backslash, after_u, after_high, prepend, content}
-use Rattle.std.proofs.lemmas.Bool.{and_parts}
+use Rattle.std.proofs.lemmas.Bool.{and_parts, ltb-true}
 use Rattle.ccr_law_base.proofs.Lists.{some_equal}
 
 -- ---- texts and ASCII
@@ -147,14 +147,11 @@ pair_of : (h l : ℕ) → is_high_surrogate h ≡ true → is_low_surrogate l �
 pair_of h l high low =
     let hs = and_parts (nat_le 0xd800 h) (nat_lt h 0xdc00) high in
     let ls = and_parts (nat_le 0xdc00 l) (nat_lt l 0xe000) low in
-    scalar_in (surrogate_pair h l) (summed h l (least h 0xd800 hs.0) (less h 0xdc00 hs.1) (least l 0xdc00 ls.0) (less l 0xe000 ls.1)).0
-    (summed h l (least h 0xd800 hs.0) (less h 0xdc00 hs.1) (least l 0xdc00 ls.0) (less l 0xe000 ls.1)).1
+    scalar_in (surrogate_pair h l) (summed h l (least h 0xd800 hs.0) (ltb-true h 0xdc00 hs.1) (least l 0xdc00 ls.0) (ltb-true l 0xe000 ls.1)).0
+    (summed h l (least h 0xd800 hs.0) (ltb-true h 0xdc00 hs.1) (least l 0xdc00 ls.0) (ltb-true l 0xe000 ls.1)).1
   where
     least : (x k : ℕ) → nat_le k x ≡ true → k ≤ x
     least x k is = grind (arith, nat_tests)
-
-    less : (x k : ℕ) → nat_lt x k ≡ true → x < k
-    less x k is = grind (arith, nat_tests)
 
     scalar_in : (v : ℕ) → 57344 ≤ v → v < 1114112 → IsScalar v
     scalar_in v low high = grind (arith, nat_tests)

@@ -2,7 +2,7 @@
 use Rattle.std.specs.List.{AllByRecursion, list_any}
 use Rattle.std.specs.Prelude.{option_and_then}
 use Rattle.std.specs.Option.{option_map_or}
-use Rattle.std.proofs.Common.{◌≡◌, ℕ, ◌+◌, ◌^◌, ◌<◌, ◌≤◌, ◌==◌, ◌||◌, ◌⊎◌, inl, inr, ⊎_elim, Bool, true, false, nat_lt, if◌then◌else◌, Option, Some, None, is_some, Ok, Err, List, [], ◌∷◌, map, refl, sym, ◌∙◌, ap, subst, arith}
+use Rattle.std.proofs.Common.{◌≡◌, ℕ, ◌+◌, ◌^◌, ◌<◌, ◌≤◌, ◌==◌, ◌||◌, ◌⊎◌, inl, inr, ⊎_elim, Bool, true, nat_lt, if◌then◌else◌, Option, Some, None, is_some, Ok, Err, List, [], ◌∷◌, map, refl, sym, ◌∙◌, ap, subst, arith}
 use Rattle.std.proofs.lemmas.Bool.Decides.{nat_tests}
 use Rattle.ccr_op.specs.Ids.{IsIdText}
 use Rattle.ccr_op.specs.Operation.{Operation, KindFits}
@@ -25,6 +25,8 @@ use Rattle.ccr_law_spelled.specs.Spelled.{IsSmall, AreSmall}
 use Rattle.ccr_law_spelled.proofs.Sources.{source_fits}
 use Rattle.ccr_law_stores.proofs.Histories.{low_some}
 use Rattle.ccr_law_core.proofs.Sets.{count_within}
+use Rattle.ccr_law_base.proofs.Tests.{itself}
+use Rattle.std.proofs.lemmas.Bool.{or_right}
 
 pub small-later : (place : ℕ) (op : Operation) → IsSmall place op → IsSmall (place + 1) op
 small-later place op ok = record {
@@ -82,16 +84,9 @@ small-plugged place term bound ops low few old n op at =
 pub greatest-low : (xs : List ℕ) (place : ℕ) → ((k : ℕ) → list_any (λ n. n == k) xs ≡ true → k < place) → greatest (map {A = ℕ} {B = ℕ} (λ n. n + 1) xs) ≤ place
 greatest-low [] place all = omega arith
 greatest-low (x ∷ xs) place all =
-    let own : x < place = all x (let is : (x == x) ≡ true = same x in ap (λ (b : Bool). b || list_any (λ n. n == x) xs) is) in
+    let own : x < place = all x (let is : (x == x) ≡ true = itself x in ap (λ (b : Bool). b || list_any (λ n. n == x) xs) is) in
     let rest : greatest (map {A = ℕ} {B = ℕ} (λ n. n + 1) xs) ≤ place = greatest-low xs place (λ k is. all k (or_right (x == k) (list_any (λ n. n == k) xs) is)) in
     omega arith
-  where
-    same : (n : ℕ) → (n == n) ≡ true
-    same n = grind (arith, nat_tests)
-
-    or_right : (a b : Bool) → b ≡ true → (a || b) ≡ true
-    or_right true b is = refl
-    or_right false b is = is
 
 pub end-low : (seen : Numbers) (place : ℕ) → ((k : ℕ) → has seen k ≡ true → k < place) → end_of seen ≤ place
 end-low seen place all =
@@ -99,10 +94,6 @@ end-low seen place all =
     let above : greatest (map {A = ℕ} {B = ℕ} (λ n. n + 1) seen.above) ≤ place
     = greatest-low seen.above place (λ k is. all k (or_right (nat_lt k seen.count) (list_any (λ n. n == k) seen.above) is)) in
     omega arith
-  where
-    or_right : (a b : Bool) → b ≡ true → (a || b) ≡ true
-    or_right true b is = refl
-    or_right false b is = is
 
 -- what a copy has processed is no greater than the entries allow
 pub processed-low : (place : ℕ) (given : ℕ → ℕ → Option Operation) (term copy : ℕ) (seen : Numbers) → AreSmall place given term → AreNumbered (given copy)

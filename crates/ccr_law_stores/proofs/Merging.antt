@@ -19,7 +19,7 @@ use Rattle.ccr_law_stores.proofs.Counting.{times-append, times-filter, times_non
 use Rattle.ccr_law_stores.proofs.Holding.{in_parts}
 use Rattle.ccr_law_stores.proofs.Joining.{others_at, times-picked, times-joined, All-picked, All-joined}
 use Rattle.ccr_law_stores.proofs.Keeping.{not_missed-fewer, store-same, store-floors}
-use Rattle.std.proofs.lemmas.Bool.{and_parts}
+use Rattle.std.proofs.lemmas.Bool.{and_parts, not-true}
 
 -- ---- what the tests of a merge say
 
@@ -57,17 +57,13 @@ passed_by ops xs id op count all is =
 pub least_by : (ops : ℕ → Option Operation) (xs : List Operation) (there : ℕ → Bool) (id : List ℕ) (op : Operation) → AllByRecursion (IsAmong ops) xs
     → ((n : ℕ) → there n ≡ true → has_number xs n ≡ true) → is_least id op xs ≡ true → IsLeast ops there id op.seq
 least_by ops xs there id op all few is x given held about =
-    let none : list_any (λ (y : Operation). is_about id y && nat_lt y.seq op.seq) xs ≡ false = not_true (list_any (λ (y : Operation). is_about id y && nat_lt y.seq op.seq) xs) is in
+    let none : list_any (λ (y : Operation). is_about id y && nat_lt y.seq op.seq) xs ≡ false = not-true (list_any (λ (y : Operation). is_about id y && nat_lt y.seq op.seq) xs) is in
     let out : (is_about id x && nat_lt x.seq op.seq) ≡ false
     = All-in (λ (y : Operation). (is_about id y && nat_lt y.seq op.seq) ≡ false) xs x (any_none (λ (y : Operation). is_about id y && nat_lt y.seq op.seq) xs none)
     (in-given ops xs x all given (few x.seq held)) in
     let own : is_about id x ≡ true = id_about id (id_of x.kind) about in
     let not_less : nat_lt x.seq op.seq ≡ false = sym (ap (λ (b : Bool). b && nat_lt x.seq op.seq) own) ∙ out in
     grind (arith, nat_tests)
-  where
-    not_true : (b : Bool) → not b ≡ true → b ≡ false
-    not_true true h = cc
-    not_true false h = refl
 
 -- ---- one operation goes
 

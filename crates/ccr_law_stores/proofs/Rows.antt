@@ -22,7 +22,7 @@ use Rattle.ccr_model.specs.Past.{Line, Past, past_with, end_of_replica, resync_g
 use Rattle.ccr_law_base.proofs.Cases.{on_if, on_guards}
 use Rattle.ccr_law_core.specs.Cores.{PrimaryOk, IsReplica, CoreOf, IsCore}
 use Rattle.ccr_law_base.proofs.Lists.{All-weaker, All-both, All-push, All-map, All-replaced, All-without, All-find, All-changed}
-use Rattle.ccr_law_core.proofs.Replicas.{same_number, number_itself, gave-same, gave-other, given-aside, replaced-alone, others-without}
+use Rattle.ccr_law_core.proofs.Replicas.{gave-same, gave-other, given-aside, replaced-alone, others-without}
 use Rattle.ccr_law_core.proofs.Changes.{some-within}
 use Rattle.ccr_law_core.proofs.Sets.{or_false}
 use Rattle.ccr_law_core.proofs.Rows.{at_copies, at_copies_settling, primary_has, Found, found_in, filled_is}
@@ -31,7 +31,8 @@ use Rattle.ccr_law_stores.proofs.Keeping.{below_or}
 use Rattle.ccr_law_stores.proofs.Changes.{held-op, store-resynced}
 use Rattle.ccr_law_stores.proofs.Sorting.{sorted-stored_all, sorted-sifted}
 use Rattle.ccr_law_stores.proofs.Sound.{sound-takes_found, sound-takes, sound-flushes, sound-knows, sound-plugged, sound-merges}
-use Rattle.std.proofs.lemmas.Bool.{not-false}
+use Rattle.std.proofs.lemmas.Bool.{not-false, eqb-true}
+use Rattle.ccr_law_base.proofs.Tests.{itself}
 
 -- the claims after an event, where this is what it comes to
 abbrev pub StoresAfter : Past → Event → Outcome State → Type 0
@@ -89,7 +90,7 @@ pub found-store : (given : ℕ → ℕ → Option Operation) (s : Copies) (copy 
 found-store given s copy r found ok =
     let both : IsSound (given r.copy.number) 0 r.copy × ((r.copy.number == copy) ≡ true)
     = All-find (λ (x : Replica). IsSound (given x.copy.number) 0 x.copy) (λ x. x.copy.number == copy) s.replicas r ok.others found in
-    let same : r.copy.number ≡ copy = same_number r.copy.number copy both.1 in
+    let same : r.copy.number ≡ copy = eqb-true r.copy.number copy both.1 in
     (subst (λ (k : ℕ). IsSound (given k) 0 r.copy) same both.0, same)
 
 -- one replica changed, which keeps its number, and nothing was given
@@ -134,7 +135,7 @@ write_keeps p request None found core ok =
         let fit : IsFit (given s.primary.number) s.primary = primary-fit line (given s.primary.number) s.primary core.rest.primary in
         record {
           own = subst (λ (o : ℕ → Option Operation). IsSound o 0 (knowing (least_known (marked s.primary.seen op.seq).count s.replicas) (taking s.primary op.seq (Some op))))
-              (sym (gave-same given s.primary.number (gaining (given s.primary.number) op.seq (Some op)) s.primary.number (number_itself s.primary.number)))
+              (sym (gave-same given s.primary.number (gaining (given s.primary.number) op.seq (Some op)) s.primary.number (itself s.primary.number)))
               (sound-knows (gaining (given s.primary.number) op.seq (Some op)) 0 (taking s.primary op.seq (Some op)) (least_known (marked s.primary.seen op.seq).count s.replicas)
               (sound-takes (given s.primary.number) 0 s.primary op.seq op fit.numbered refl fit.processed fit.whole ok.own));
           others = given-aside (λ o x. IsSound o 0 x.copy) (λ o x. IsSound o 0 x.copy) given s.primary.number (gaining (given s.primary.number) op.seq (Some op))
@@ -248,7 +249,7 @@ add_copy_keeps p core ok =
               (λ x is. let less : x.copy.number < s.next = is.old in grind (arith, nat_tests)) s.replicas core.rest.replicas_ok)
               ok.others)
               (subst (λ (o : ℕ → Option Operation). IsSound o 0 (record s.primary { number = s.next }))
-              (sym (gave-same given s.next (given s.primary.number) s.next (number_itself s.next))) ok.own);
+              (sym (gave-same given s.next (given s.primary.number) s.next (itself s.next))) ok.own);
         }
 
 -- ---- flushes and merges
@@ -364,7 +365,7 @@ promote_keeps p copy (Some r) is core ok =
         primary-knows (gave given copy ops) (as_primary term r.copy) (map {A = Replica} {B = Replica} unknown (without copy s.replicas))
         (least_known (as_primary term r.copy).seen.count (map {A = Replica} {B = Replica} unknown (without copy s.replicas))) record {
           own = subst (λ (k : ℕ). IsSound (gave given copy ops k) 0 (filled term (missing_numbers r.copy.seen) r.copy)) (sym number)
-              (subst (λ (o : ℕ → Option Operation). IsSound o 0 (filled term (missing_numbers r.copy.seen) r.copy)) (sym (gave-same given copy ops copy (number_itself copy))) made);
+              (subst (λ (o : ℕ → Option Operation). IsSound o 0 (filled term (missing_numbers r.copy.seen) r.copy)) (sym (gave-same given copy ops copy (itself copy))) made);
           others = All-map (λ (x : Replica). IsSound (gave given copy ops x.copy.number) 0 x.copy) unknown (without copy s.replicas)
               (All-weaker (λ (x : Replica). IsSound (given x.copy.number) 0 x.copy × ((x.copy.number == copy) ≡ false))
               (λ (x : Replica). IsSound (gave given copy ops x.copy.number) 0 x.copy)

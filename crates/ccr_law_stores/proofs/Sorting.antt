@@ -1,7 +1,7 @@
 -- The parts of a store ascend by number, after each change of it.
 use Rattle.std.specs.List.{AllByRecursion, enumerate_from}
 use Rattle.std.specs.Prelude.{filter, take_while}
-use Rattle.std.proofs.Common.{◌≡◌, ℕ, ◌+◌, ◌<◌, ◌≤◌, ◌==◌, ◌||◌, Bool, true, false, not, nat_lt, Option, Some, None, List, [], ◌∷◌, ◌++◌, length, drop, refl, sym, ap, subst, arith}
+use Rattle.std.proofs.Common.{◌≡◌, ℕ, ◌+◌, ◌<◌, ◌≤◌, ◌==◌, Bool, true, false, not, nat_lt, Option, Some, None, List, [], ◌∷◌, ◌++◌, length, drop, refl, sym, ap, subst, arith}
 use Rattle.std.proofs.lemmas.Bool.Decides.{nat_tests}
 use Rattle.std.proofs.lemmas.List.Concat.{flat_map-cons}
 use Rattle.ccr_op.specs.Operation.{Operation}
@@ -16,6 +16,8 @@ use Rattle.ccr_law_stores.specs.TrueStores.{one, times, IsSorted}
 use Rattle.ccr_law_stores.proofs.Counting.{times-append, none_by_times}
 use Rattle.ccr_law_stores.proofs.Holding.{in_parts, times-with_op, times-stored, times-stored_all, sifted_parts}
 use Rattle.ccr_law_stores.proofs.Joining.{ops_at, ops_at-placed, times-chosen}
+use Rattle.std.proofs.lemmas.Bool.{or_parts}
+use Rattle.ccr_law_base.proofs.Tests.{itself}
 
 pub ascends-lower : (low high : ℕ) (xs : List Operation) → low ≤ high → AscendsFrom high xs → AscendsFrom low xs
 ascends-lower low high [] le up = tt
@@ -30,13 +32,9 @@ ascends-with_op low op (x ∷ xs) le out up =
     (λ isnt. (
       first,
       ascends-with_op (x.seq + 1) op xs
-          (past (x.seq == op.seq) refl isnt (either (x.seq == op.seq) (has_number xs op.seq) out).0) (either (x.seq == op.seq) (has_number xs op.seq) out).1 up.1,
+          (past (x.seq == op.seq) refl isnt (or_parts (x.seq == op.seq) (has_number xs op.seq) out).0) (or_parts (x.seq == op.seq) (has_number xs op.seq) out).1 up.1,
     ))
   where
-    either : (a b : Bool) → (a || b) ≡ false → (a ≡ false) × (b ≡ false)
-    either true b none = cc
-    either false b none = (refl, none)
-
     past : (b : Bool) → (x.seq == op.seq) ≡ b → nat_lt op.seq x.seq ≡ false → b ≡ false → x.seq + 1 ≤ op.seq
     past true is isnt never = cc
     past false is isnt never = grind (arith, nat_tests)
@@ -49,10 +47,7 @@ ascends-with_ops (op ∷ more) xs once up =
     (ascends-with_op 0 op xs (omega arith)
     (none_by_times xs op.seq
     (let few : times op.seq (op ∷ more) + times op.seq xs ≤ 1 = once op.seq in
-    let own : one (op.seq == op.seq) ≡ 1 = ap one (same op.seq) in omega arith)) up)
-  where
-    same : (n : ℕ) → (n == n) ≡ true
-    same n = grind (arith, nat_tests)
+    let own : one (op.seq == op.seq) ≡ 1 = ap one (itself op.seq) in omega arith)) up)
 
 pub ascends-ascending : (xs : List Operation) → ((n : ℕ) → times n xs ≤ 1) → AscendsFrom 0 (ascending xs)
 ascends-ascending xs once = ascends-with_ops xs [] (λ n. let few : times n xs ≤ 1 = once n in omega arith) tt
@@ -72,12 +67,9 @@ sorted-stored op s once ok = record {
   last = ascends-with_op 0 op s.open_part (omega arith)
       (none_by_times s.open_part op.seq
       (let few : times op.seq (held (stored op s)) ≤ 1 = once op.seq in
-      let own : one (op.seq == op.seq) ≡ 1 = ap one (same op.seq) in
+      let own : one (op.seq == op.seq) ≡ 1 = ap one (itself op.seq) in
       omega (arith, times-stored op.seq op s, times-append op.seq (in_parts s.parts) s.open_part))) ok.last;
 }
-  where
-    same : (n : ℕ) → (n == n) ≡ true
-    same n = grind (arith, nat_tests)
 
 pub sorted-taking : (c : Copy) (seq : ℕ) (o : Option Operation) → ((n : ℕ) → times n (held (taking c seq o).store) ≤ 1) → IsSorted c.store → IsSorted (taking c seq o).store
 sorted-taking c seq o once ok =

@@ -1,10 +1,9 @@
 -- How long what was lost waits, and how losses are counted.
-use Rattle.std.specs.Prelude.{◌≡◌, [], ◌∷◌}
+use Rattle.std.specs.Prelude.{◌≡◌, [], ◌∷◌, Some}
 use Rattle.ccr_wire.specs.declared.content.Content.TheVariants.{NotReady}
 use Rattle.ccr_model.specs.Requests.{on_its_way, waiting, delay, retry_time}
 use Rattle.ccr_model.specs.Tasks.{Task, read_lost, write_lost, write_ended}
 use Rattle.ccr_model.specs.Restores.{Restore, leasing, restore_lost, hear_leasing}
-use Rattle.std.specs.Prelude.{Some}
 use Rattle.ccr_worked.specs.Words.{op, read, write, params, task}
 
 -- the delay doubles from 50 milliseconds on, up to the 24th loss, and is no greater than the longest

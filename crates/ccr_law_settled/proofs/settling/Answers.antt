@@ -1,7 +1,10 @@
-use Rattle.ccr_law_settled.specs.Settles.{EachLowers, NoneIsLeft}
+use Rattle.ccr_law_settled.specs.Settles.{IsFull, EachLowers, NoneIsLeft}
 use Rattle.ccr_law_settled.proofs.Full.{each_lowers, none_is_left}
 use Rattle.ccr_law_settled.proofs.Theorem.{always}
 use Rattle.ccr_law_settled.proofs.settling.Goals as goal
+
+pub returns-clause-grounds : goal.returns-clause-grounds
+returns-clause-grounds c = always IsFull (λ p full. full)
 
 pub returns-clause-lowers : goal.returns-clause-lowers
 returns-clause-lowers c = always EachLowers each_lowers
