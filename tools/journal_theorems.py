@@ -1,9 +1,9 @@
 #!/usr/bin/env python3
 """Turns journals of shard worlds into theorems: each journal is legal, by computation.
 
-    journal_theorems.py FOLDER NAME..           prints the definitions and the proof of each journal FOLDER/NAME.json
-    journal_theorems.py FOLDER --write NAME..   makes crates/ccr_vectors of these journals
-    journal_theorems.py FOLDER --check NAME..   proves these journals in a temporary copy of the repository
+    journal_theorems.py FILE..           prints the definitions and the proof of each journal
+    journal_theorems.py --write          makes crates/ccr_model_journals of all journals of tools/journals
+    journal_theorems.py --check FILE..   proves these journals in a temporary copy of the repository
 
 A journal file is a list of shard worlds, each with its start and its entries. A world of no entry is left out.
 """
@@ -16,26 +16,57 @@ import sys
 import tempfile
 
 ROOT = os.path.dirname(os.path.dirname(os.path.abspath(__file__)))
-CRATE = 'ccr_vectors'
+CRATE = 'ccr_model_journals'
+JOURNALS = os.path.join(ROOT, 'tools', 'journals')
 
 # what a journal shows, for the documentation of its function
 SHOWS = {
+    'batches-and-reads': 'A follower with narrow parameters reads and writes in several batches',
     'chunks': 'A follower fetches a file in parts, out of order, until its session closes, and fetches it again from another',
+    'commit-counts': 'A flush sets the commit count, beyond which no floor rises',
     'conditional-writes': 'Writes that expect an operation, or no document, are refused where they find another',
     'deleted-document': 'A document that was deleted and merged away is not there at a follower that follows afterwards',
+    'deletes-in-merges': 'Merges drop no-ops, deletes and what they supersede, and join parts at the least place that is picked',
+    'each-refusal-of-a-follower': 'Each event of a follower is refused where it has to be, and its bootstrap goes to its end with narrow parameters',
     'expired-lease': 'A lease expires, a merge drops what it retained, and the follower that asks for it stops',
     'filled-gap': 'A replica with a gap becomes the primary, and the missing number becomes a no-op',
     'first-path': 'One write travels to the follower and is found there',
+    'floor-above-lease': "A lease is answered with the greatest floor of the copies, which is above the primary's",
+    'floors-over-promotions': 'Floors, leases and polls over three promotions, two new copies and a copy that leaves',
     'follower-failover': "A follower's primary is lost before its replica has a write's operation, and the write is applied again",
+    'follower-over-a-promotion': "A follower's writes, renewals, restart and pause over the promotion of its replica",
+    'forced-promotion': 'A stale copy is promoted by force: a new history begins, and the follower of the old one stops',
+    'forced-promotion-after-merges': 'A stale copy is promoted by force after merges, while a follower is in its bootstrap',
+    'four-copies-and-five-followers': 'Four copies of a leader and five followers of many parameters, in a random order',
+    'held-is-not-sent': 'A read that is held back is not sent while the buffer is full, and can not be lost',
+    'kept-lease-that-expired': 'A lease expires while its request is kept, and the request comes again',
+    'known-counts-after-a-promotion': 'A new primary knows nothing of the others before they are resynced and acked',
+    'lose-by-request-number': 'The places of reads that are lost go by their request numbers',
+    'merges-and-losses': 'Merges, flushes and lost requests of a leader of two copies and its follower, in a random order',
+    'ninth-follower': 'Eight followers of one shard, a ninth that is refused, and a world that settles once the write has ended',
     'not-ready': 'A leader that is not ready after a promotion keeps a request for a lease until each copy has the lease',
+    'not-settled-before-ready': 'A world is not settled before its leader is ready',
     'number-used-again': 'An operation that no other copy had is lost with the primary, and its number is used again',
     'old-epoch': 'A write of an epoch that is over is refused',
     'old-read-repeated': 'A read that comes again after a merge is answered as missing, and its follower goes on',
+    'pause-keeps-losses': 'A pause leaves the count of losses, which a write that ends sets to 0',
+    'pause-with-a-buffer': 'A pause drops the buffer, and the task reads it again after the resumption',
+    'poll-over-a-promotion': 'A poll at the lost primary ends with a promotion, and one at another copy stays until that leaves',
     'poll-timeout': 'A read that waited for its time is answered without an operation',
-    'random-7084': 'Many events of a leader of three copies and its follower in a random order',
+    'promotions-and-expiry': 'Promotions, expiries and a retention setting over a leader of three copies and its follower, in a random order',
     'refusals': 'Events that are refused, each for its cause',
+    'renewal-by-waiting-reads': 'A renewal keeps what the least of the sent, held and waiting reads asks for',
     'reordering': 'Answers that come out of order leave a gap, which the late one closes',
     'repeats': 'A repeated answer is ignored, and a repeated batch has nothing new',
+    'reply-tells-its-copys-count': 'A read at a replica is answered with what that copy has and knows',
+    'resync-from-the-greater-global-count': "A resync begins at the greater of the replica's and the primary's global count, and teaches neither",
+    'resync-of-two-replicas': 'Two replicas are resynced after a promotion',
+    'retry-count-in-the-bootstrap': 'Each answer to the bootstrap sets the count of losses to 0',
+    'routed-deletes': 'Writes and deletes with a routing or without one, at the leader and at a follower that is restored',
+    'routed-writes': 'A document is found with the routing of its write, or with none',
+    'second-poll-is-woken': 'Of two polls of a follower the second is woken',
+    'session-not-ready': 'A session that is asked for before the leader is ready waits for a retry',
+    'session-over-a-promotion': 'A session ends with a promotion, and its number is not used again',
     'uncommitted-superseder-by-hand': 'A merge keeps an operation where only one that is not committed supersedes it',
 }
 
@@ -47,7 +78,7 @@ DEFAULTS = dict(zip(PARAMS, [5120, 33554432, 12, 5120, 9223372036854775807, 9, 2
 
 # the fields of the events and replies that have other fields than `side` and `copy`, or other than none
 EVENTS = {
-    'Write': ['request'], 'Replicate': ['side', 'copy', 'seq'], 'Resync': ['copy'], 'AddCopy': ['side'],
+    'Write': ['request'], 'Replicate': ['side', 'copy', 'seq'], 'ForcePromote': ['copy'], 'Resync': ['copy'], 'AddCopy': ['side'],
     'Clock': ['side', 'now'], 'Expire': [], 'CloseSessions': [], 'Tick': ['f'], 'Deliver': ['at', 'copy', 'keep'],
     'Drop': ['at'], 'Wake': ['f', 'at'], 'Lose': ['f', 'at'], 'LoseWrite': ['f', 'write'], 'Take': ['f', 'write'],
     'Apply': ['f', 'epoch', 'write', 'batch'], 'Written': ['f', 'write'], 'Renew': ['f'],
@@ -55,7 +86,7 @@ EVENTS = {
     'Search': ['side', 'copy', 'query', 'sort'], 'Status': ['side'], 'Settle': [],
 }
 REPLIES = {
-    'Acked': ['global'], 'Promoted': ['term', 'filled'], 'Resynced': ['dropped', 'taken'], 'Added': ['copy'],
+    'Acked': ['global'], 'Promoted': ['term', 'filled'], 'Forced': ['term', 'filled'], 'Resynced': ['dropped', 'taken'], 'Added': ['copy'],
     'Flushed': ['commit'], 'Merged': ['floor', 'dropped', 'picks'], 'Closed': ['sessions'], 'Took': ['batch'],
     'Applied': ['new'],
 }
@@ -109,9 +140,10 @@ def operation(o):
     if o['kind'] == 'noop':
         return call('no_op', *numbers)
     numbers.append(str(o['version']))
+    routing = option(text(o['routing']) if o.get('routing') is not None else None)
     if o['kind'] == 'delete':
-        return application('delete', *numbers, text(o['id']))
-    return application('index', *numbers, text(o['id']), text(o['body']))
+        return application('delete', *numbers, text(o['id']), routing)
+    return application('index', *numbers, text(o['id']), routing, text(o['body']))
 
 
 def operations(ops):
@@ -186,7 +218,7 @@ def field_of(name, x):
         return side(value)
     if name == 'request':
         body = None if x['body'] is None else text(x['body'])
-        return application('request', text(x['id']), option(body), boolean(x['create']), option(pair(x['expect'])))
+        return application('request', text(x['id']), option(text(x['routing']) if x.get('routing') is not None else None), option(body), boolean(x['create']), option(pair(x['expect'])))
     if name == 'batch':
         return operations(value)
     if name == 'keep':
@@ -239,7 +271,7 @@ def reply(r, e):
         result = ''.join(word.capitalize() for word in r['result'].split('_'))
         return application('replies.Written', call('wrote', str(r['seq']), str(r['term']), str(r['version']), f'written.{result}'))
     if name == 'Found':
-        hits = listing(application('hit', text(h[0]), text(h[2])) for h in sorted_hits(r['hits'], e['sort']))
+        hits = listing(application('hit', text(h[0]), option(None if h[1] is None else text(h[1])), text(h[2])) for h in sorted_hits(r['hits'], e['sort']))
         return application('replies.Found', application('found', str(r['count']), boolean(r['gap']), hits))
     if name == 'LeaderStatus':
         leases = listing(application('lease', text(id), str(number), str(stamp)) for id, number, stamp in r['leases'])
@@ -295,7 +327,7 @@ class Journal:
     def __init__(self, name, world):
         self.name = name.replace('-', '_')
         self.module = ''.join(part.capitalize() for part in re.split('[-_]', name))
-        self.shows = SHOWS.get(name, f'The journal {name}')
+        self.shows = SHOWS.get(re.sub('-[0-9]+$', '', name), f'The journal {name}')
         self.start = world['start']
         self.entries = world['entries']
 
@@ -321,9 +353,10 @@ class Journal:
                 f'    ensures {{ IsLegal (start_state {self.name}_start) {self.name}_entries }}\n{{}}\n')
 
 
-def journals_of(folder, names):
-    for name in names:
-        with open(os.path.join(folder, name + '.json')) as file:
+def journals_of(paths):
+    for path in paths:
+        name = os.path.basename(path)[:-len('.json')]
+        with open(path) as file:
             worlds = [world for world in json.load(file) if world['entries']]
         for number, world in enumerate(worlds):
             yield Journal(name if len(worlds) == 1 else f'{name}-{number}', world)
@@ -372,9 +405,10 @@ def check(journals):
 
 
 def main(words):
-    folder, *rest = words
-    flag, names = (rest[0], rest[1:]) if rest and rest[0].startswith('--') else ('', rest)
-    journals = list(journals_of(folder, names))
+    flag, paths = (words[0], words[1:]) if words and words[0].startswith('--') else ('', words)
+    if flag == '--write':
+        paths = [os.path.join(JOURNALS, name) for name in sorted(os.listdir(JOURNALS)) if name.endswith('.json')]
+    journals = list(journals_of(paths))
     if flag == '--write':
         write(os.path.join(ROOT, 'crates', CRATE), journals)
     elif flag == '--check':

@@ -1,4 +1,4 @@
-use Rattle.std.specs.Prelude.{◌≡◌, ◌≢◌, ℕ, ◌<◌, ◌≤◌, Bool, true, ◌&&◌, ◌||◌, ◌==◌, not, nat_le, List, [], ◌++◌, length, filter, find, insert, remove, Option, None, Some, codes}
+use Rattle.std.specs.Prelude.{◌≡◌, ◌≢◌, ℕ, ◌<◌, ◌≤◌, Bool, true, ◌&&◌, ◌||◌, ◌==◌, not, nat_le, List, [], ◌∷◌, ◌++◌, length, drop, if◌then◌else◌, filter, find, insert, remove, Option, None, Some, codes}
 use Rattle.std.specs.List.{list_any, list_all}
 use Rattle.std.specs.List.Sorted.{IsStrictlySortedBy}
 use Rattle.std.specs.declared.cmp.Ordering.{Ordering}
@@ -6,13 +6,15 @@ use Rattle.std.specs.Ordering.{nat_cmp, is_lt}
 use Rattle.std.specs.Cmp.Lexicographic.{slice_cmp}
 use Rattle.std.specs.Str.{bytes_eq}
 use Rattle.std.specs.Str.Pattern.{LacksTextAt}
-use Rattle.ccr_auto.specs.Patterns.{is_match}
+use Rattle.ccr_auto.specs.Patterns.{is_match, has_front}
 
--- an auto-follow pattern: its name, the remote cluster, the patterns of index names, and the follow name
+-- an auto-follow pattern: its name, the remote cluster, the patterns of index names, those of the names that are left out,
+-- and the follow name
 pub record FollowPattern : Type 0 where
   pub name : List ℕ
   pub remote : List ℕ
   pub patterns : List (List ℕ)
+  pub exclude : List (List ℕ)
   pub follow : List ℕ
 
 -- the order of the patterns: by the bytes of their names
@@ -39,9 +41,13 @@ with_pattern pattern list = insert list (place_of pattern.name list) pattern
 abbrev pub without : List ℕ → List FollowPattern → List FollowPattern
 without name list = filter (λ pattern. not (bytes_eq pattern.name name)) list
 
--- the pattern is of this remote cluster, and one of its texts matches the index
+-- one of the texts matches the index
+abbrev pub some_match : List ℕ → List (List ℕ) → Bool
+some_match index texts = list_any (λ text. is_match text index) texts
+
+-- the pattern is of this remote cluster, and one of its texts matches the index, and none of its exclusions
 abbrev pub applies : List ℕ → List ℕ → FollowPattern → Bool
-applies remote index pattern = bytes_eq pattern.remote remote && list_any (λ text. is_match text index) pattern.patterns
+applies remote index pattern = bytes_eq pattern.remote remote && (some_match index pattern.patterns && not (some_match index pattern.exclude))
 
 -- a byte of `a-z 0-9 . _ - *`
 abbrev pub is_pattern_byte : ℕ → Bool
@@ -65,15 +71,22 @@ pub record MarksOnce (follow front back : List ℕ) : Type 0 where
 abbrev pub HasMarker : List ℕ → Type 0
 HasMarker follow = (front : List ℕ) × (back : List ℕ) × MarksOnce follow front back
 
--- the pattern may be put: it has texts, which are patterns, and a follow name with the marker exactly once
-pub record IsWellFormed (patterns : List (List ℕ)) (follow : List ℕ) : Type 0 where
+-- the pattern may be put: it has texts, these and its exclusions are patterns, and the follow name has the marker exactly once
+pub record IsWellFormed (patterns exclude : List (List ℕ)) (follow : List ℕ) : Type 0 where
   pub some : patterns ≢ []
   pub texts : list_all is_pattern_text patterns ≡ true
+  pub excluded : list_all is_pattern_text exclude ≡ true
   pub marked : HasMarker follow
 
+-- the text, where another takes the place of the leftmost such piece
+abbrev pub with_first_replaced : List ℕ → List ℕ → List ℕ → List ℕ
+with_first_replaced piece other [] = []
+with_first_replaced piece other (c ∷ text) =
+    if has_front piece (c ∷ text) then other ++ drop (length piece) (c ∷ text) else c ∷ with_first_replaced piece other text
+
 -- the follow name, where the index takes the place of the marker
-abbrev pub IsNamed : List ℕ → List ℕ → List ℕ → Type 0
-IsNamed follow index name = (front : List ℕ) × (back : List ℕ) × (follow ≡ front ++ (marker ++ back)) × (name ≡ front ++ (index ++ back))
+abbrev pub name_for : List ℕ → List ℕ → List ℕ
+name_for index follow = with_first_replaced marker index follow
 
 -- the pattern of this name stands at this place, and at no other
 pub record IsPlace (name : List ℕ) (place : ℕ) (list : List FollowPattern) : Type 0 where

@@ -3,14 +3,15 @@ ghost use Rattle.std.specs.List.{list_any, list_all};
 ghost use Rattle.std.specs.Str.{bytes_eq};
 ghost use Rattle.std.specs.Ordering.{is_lt, nat_cmp};
 ghost use Rattle.std.specs.Cmp.Lexicographic.{slice_cmp};
-ghost use Rattle.ccr_auto.specs.Follow.{Ascend, HasMarker, IsGap, IsPlace, MarksOnce, applies, is_pattern_byte, is_pattern_text, pattern_of, place_of, with_pattern, without, IsNamed};
+ghost use Rattle.ccr_auto.specs.Follow.{Ascend, HasMarker, IsGap, IsPlace, MarksOnce, applies, is_pattern_byte, is_pattern_text, pattern_of, place_of, some_match, with_pattern, without, name_for};
 ghost use Rattle.ccr_auto.specs.Patterns.{is_match};
-ghost use Rattle.ccr_auto.specs.Answers.{IsJudged, IsDecision};
+ghost use Rattle.ccr_auto.specs.Answers.{IsJudged, decision_of};
 
 use crate::pattern::matches;
 use ccr_op::Name;
 use std::alloc::{AllocError, Global};
 use std::marker::Model;
+use std::sync::ArcStr;
 use thiserror::Error;
 
 /// What stands in the follow name of a pattern for the name of the leader index.
@@ -50,17 +51,20 @@ struct Entry {
     name: Name,
     remote: Name,
     patterns: Vec<Name>,
+    exclude: Vec<Name>,
     front: String,
     back: String,
 }
 
 impl Model for Entry {
     ghost use Rattle.std.specs.Prelude.{◌++◌, string_bytes};
-    ghost use Rattle.ccr_auto.specs.Follow.{FollowPattern, marker};
+    ghost use Rattle.ccr_auto.specs.Follow.{FollowPattern, MarksOnce, marker};
 
     ghost Value = { FollowPattern };
 
-    ghost view = { λ a. record { name = a.name; remote = a.remote; patterns = a.patterns.items; follow = string_bytes a.front ++ (marker ++ string_bytes a.back) } };
+    ghost view = { λ a. record { name = a.name; remote = a.remote; patterns = a.patterns.items; exclude = a.exclude.items; follow = string_bytes a.front ++ (marker ++ string_bytes a.back) } };
+
+    ghost invariant = { λ a. MarksOnce (string_bytes a.front ++ (marker ++ string_bytes a.back)) (string_bytes a.front) (string_bytes a.back) };
 }
 
 impl Entry {
@@ -86,16 +90,18 @@ impl Entry {
     fn applies(&self, remote: &Name, index: &Name) -> bool
         ensures { result ≡ applies remote.now index.now self.now }
     {
-        self.remote.is(remote) && matches_any(self.patterns.as_slice(), index)
+        self.remote.is(remote)
+            && matches_any(self.patterns.as_slice(), index)
+            && !matches_any(self.exclude.as_slice(), index)
     }
 
     fn follow_name(&self, alloc: Global, index: &Name) -> Result<Name, AllocError>
-        ensures { IfOk result (λ name. IsNamed self.now.follow index.now name) }
+        ensures { IfOk result (λ name. name ≡ name_for index.now self.now.follow) }
     {
         let mut name = String::from_str(alloc, self.front.as_str())?;
         name.push_str(index.as_str())?;
         name.push_str(self.back.as_str())?;
-        Ok(Name::new(name))
+        Ok(Name::new(ArcStr::from_string(name)?))
     }
 }
 
@@ -129,22 +135,25 @@ impl AutoFollow {
         }
     }
 
-    /// Puts a pattern under a name: indices of the remote cluster that match one of the patterns are to
-    /// be followed under the follow name, in which `{{leader_index}}` stands for the name of the index.
+    /// Puts a pattern under a name: indices of the remote cluster that match one of the patterns and none
+    /// of the exclusions are to be followed under the follow name, in which `{{leader_index}}` stands for
+    /// the name of the index.
     ///
     /// Refused is `NameTaken` exactly where there is a pattern of that name. Otherwise `BadPattern` exactly
-    /// where there are no patterns, where one has a byte other than `a-z 0-9 . _ - *`, or where the follow
-    /// name does not have `{{leader_index}}` exactly once. A refused call changes nothing.
+    /// where there are no patterns, where a pattern or an exclusion has a byte other than
+    /// `a-z 0-9 . _ - *`, or where the follow name does not have `{{leader_index}}` exactly once. A refused
+    /// call changes nothing.
     #[tactic(auto, using(crate::proofs::Ordered::taken_answer, crate::proofs::Ordered::free_answer))]
     pub fn put(
         &mut self,
         name: Name,
         remote: Name,
         patterns: Vec<Name>,
+        exclude: Vec<Name>,
         follow: Name,
     ) -> Result<(), AutoFault>
-        ensures answer { MatchOption (pattern_of name self.old) (IsJudged patterns.items follow result) (λ taken. result ≡ Err AutoFault.NameTaken) }
-        ensures ok { OnOk result (self.new ≡ with_pattern (record { name = name; remote = remote; patterns = patterns.items; follow = follow }) self.old) }
+        ensures answer { MatchOption (pattern_of name self.old) (IsJudged patterns.items exclude.items follow result) (λ taken. result ≡ Err AutoFault.NameTaken) }
+        ensures ok { OnOk result (self.new ≡ with_pattern (record { name = name; remote = remote; patterns = patterns.items; exclude = exclude.items; follow = follow }) self.old) }
         ensures err { OnErr result (self.new ≡ self.old) }
     {
         let place = match search(self.list.as_slice(), &name) {
@@ -155,6 +164,9 @@ impl AutoFollow {
             return Err(AutoFault::BadPattern);
         }
         if !are_pattern_texts(patterns.as_slice()) {
+            return Err(AutoFault::BadPattern);
+        }
+        if !are_pattern_texts(exclude.as_slice()) {
             return Err(AutoFault::BadPattern);
         }
         let Some((front, back)) = split_follow(follow.as_str()) else {
@@ -170,6 +182,7 @@ impl AutoFollow {
             name,
             remote,
             patterns,
+            exclude,
             front,
             back,
         };
@@ -195,10 +208,10 @@ impl AutoFollow {
     }
 
     /// What the patterns say of this index of that remote cluster: a pattern matches where it is of that
-    /// remote cluster and one of its texts matches the index. It goes through the patterns in order of
+    /// remote cluster, one of its texts matches the index, and none of its exclusions does. It goes through the patterns in order of
     /// their names, and no further than the second that matches.
     pub fn decide(&self, alloc: Global, remote: &Name, index: &Name) -> Result<Decision, AllocError>
-        ensures answer { IfOk result (λ decision. IsDecision index.now (filter (applies remote.now index.now) self.now) decision) }
+        ensures answer { IfOk result (λ decision. decision ≡ decision_of remote.now index.now self.now) }
         ensures order { Ascend self.now }
     {
         let mut first: Option<&Entry> = None;
@@ -250,7 +263,7 @@ fn place_of(list: &[Entry], name: &Name) -> usize
 
 // Whether the index matches one of the patterns.
 fn matches_any(patterns: &[Name], index: &Name) -> bool
-    ensures { result ≡ list_any (λ text. is_match text index.now) patterns.now }
+    ensures { result ≡ some_match index.now patterns.now }
 {
     patterns
         .iter()

@@ -9,17 +9,17 @@ use std::alloc::AllocError;
 /// definitions over a start and a list of entries, so a thread that knows the journal knows what the machine may do.
 ///
 /// A broken machine is one that was refused memory amid a step. It answers each further call by want of memory, but for `len`.
-pub trait Machine: Send + Drop {
+pub trait Machine: Drop {
     /// What it began with, as plain data.
     type Start;
     /// What may happen to it.
-    type Event: Send + Drop;
+    type Event: Drop;
     /// What it answers.
-    type Reply: Send + Drop;
+    type Reply: Drop;
     /// What its journal keeps of an event and its reply.
     type Entry;
     /// Numbers of its state.
-    type Note: Send + Drop;
+    type Note: Drop;
 
     ghost start: { Self → Self.Start };
 

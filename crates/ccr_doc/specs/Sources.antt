@@ -5,6 +5,7 @@ use Rattle.serde_json.specs.Data.{Data, null, boolean, number, string, array, ob
 use Rattle.serde_json.specs.Find.{as_i64, as_object}
 use Rattle.serde_json.specs.Read.{read}
 use Rattle.serde_json.specs.Written.{compact_text}
+use Rattle.ccr_op.specs.Operation.{most_source_bytes}
 use Rattle.ccr_doc.specs.declared.documents.Field.{Field}
 use Rattle.ccr_doc.specs.declared.sources.BadSource.{BadSource}
 use Rattle.ccr_doc.specs.declared.sources.BadSource.TheVariants.{NotObject, Number, Nested, TooLarge, NotJson}
@@ -38,7 +39,7 @@ judged None = Err NotJson
 judged (Some d) = if not (is_some (as_object d)) then Err NotObject
     else (if nat_lt 20 (depth d) then Err Nested
     else (if has_other_number d then Err Number
-    else (if nat_lt 524288 (length (compact_text d)) then Err TooLarge
+    else (if nat_lt most_source_bytes (length (compact_text d)) then Err TooLarge
     else Ok d)))
 
 abbrev pub source_of : List ℕ → Result Data BadSource

@@ -9,6 +9,7 @@ use ccr_op::Name;
 use serde_json::{Map, Value};
 use std::alloc::{AllocError, Global};
 use std::marker::Model;
+use std::sync::ArcStr;
 
 /// One value of a source at its dotted name: `{"a":{"b":1}}` has the value 1 at `a.b`.
 #[derive(Debug, Drop)]
@@ -64,7 +65,7 @@ fn add_field(
 ) -> Result<(), AllocError>
     ensures { OnOk result (fields.new.items ≡ fields.old.items ++ field_at name.now value ∷ []) }
 {
-    let name = Name::new(String::from_str(alloc, name)?);
+    let name = Name::new(ArcStr::from_str(alloc, name)?);
     fields.push(Field { name, value })?;
     Ok(())
 }
@@ -88,7 +89,7 @@ fn add_fields(
             None => Ok(()),
         },
         Value::String(text) => {
-            let text = Name::new(text.clone()?);
+            let text = Name::new(ArcStr::from_str(alloc, text.as_str())?);
             add_field(alloc, name, Scalar::Text(text), fields)
         }
         Value::Array(items) => add_items(alloc, name, items, fields),

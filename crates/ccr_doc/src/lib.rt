@@ -23,6 +23,7 @@ mod tests {
     use std::alloc::Global;
     use std::cmp::Ordering;
     use std::process::Abort;
+    use std::sync::ArcStr;
     use std::test::Fail;
 
     // A document as one line of text: each field, and its value after a colon.
@@ -177,8 +178,8 @@ mod tests {
             Scalar::Truth(true),
             Scalar::Number(-3),
             Scalar::Number(10),
-            Scalar::Text(Name::new(String::from_str(alloc, "10")?)),
-            Scalar::Text(Name::new(String::from_str(alloc, "9")?)),
+            Scalar::Text(Name::new(ArcStr::from_str(alloc, "10")?)),
+            Scalar::Text(Name::new(ArcStr::from_str(alloc, "9")?)),
         ];
         for (at, left) in values.iter().enumerate() {
             for (other, right) in values.iter().enumerate() {

@@ -6,15 +6,13 @@ ghost use Rattle.serde_json.specs.Written.{compact_text};
 ghost use Rattle.ccr_doc.specs.Sources.{has_other_number as has_other_number_of, items_have_other_number as items_have_other_number_of, members_have_other_number as members_have_other_number_of, value_of, judged, source_of, compact_of};
 ghost use Rattle.ccr_doc.specs.declared.sources.BadSource.TheVariants.{Memory};
 
+use ccr_op::MOST_SOURCE_BYTES;
 use serde_json::{Map, Value};
 use std::alloc::{AllocError, Global};
 use thiserror::Error;
 
 /// How many objects and lists may stand inside one another, the source itself counted.
 const MOST_LEVELS: u64 = 20;
-
-/// How many bytes a source's compact text may have.
-const MOST_BYTES: usize = 524_288;
 
 /// Why a source is refused. The first of `NotJson`, `NotObject`, `Nested`, `Number` and `TooLarge` that
 /// holds is the one that is told.
@@ -101,7 +99,7 @@ fn judge(alloc: Global, value: &Value) -> Result<String, BadSource>
         return Err(BadSource::Number);
     }
     let text = value.to_string(alloc)?;
-    if text.len() > MOST_BYTES {
+    if text.len() > MOST_SOURCE_BYTES {
         return Err(BadSource::TooLarge);
     }
     Ok(text)

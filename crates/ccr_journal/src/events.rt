@@ -1,11 +1,11 @@
 // What happens in a shard world.
 ghost use Rattle.std.specs.Prelude.{◌≡◌, IfOk};
 
-use crate::batches::Batch;
+use crate::boxed::Boxed;
 use crate::params::Params;
 use crate::requests::WriteRequest;
 use crate::sides::{CopyCount, Side};
-use ccr_op::{LeaseId, Millis};
+use ccr_op::{Batch, LeaseId, Millis};
 use ccr_query::{Query, SortKey};
 use std::alloc::{AllocError, Global};
 use std::marker::Model;
@@ -40,6 +40,13 @@ impl SortKeys {
         self.keys.as_slice()
     }
 
+    /// The keys, with their memory.
+    pub fn into_vec(self) -> Vec<SortKey>
+        ensures { result.items ≡ self }
+    {
+        self.keys
+    }
+
     /// Equal keys.
     pub fn copy(&self, alloc: Global) -> Result<Self, AllocError>
         ensures { IfOk result (λ other. other ≡ self.now) }
@@ -66,7 +73,7 @@ fn copy_keys(alloc: Global, keys: &[SortKey]) -> Result<Vec<SortKey>, AllocError
 pub enum Event {
     /// A client writes or deletes a document at the leader's primary.
     Write {
-        request: WriteRequest,
+        request: Boxed<WriteRequest>,
     },
     /// A replica takes the primary's operation of a number.
     Replicate {
@@ -89,11 +96,15 @@ pub enum Event {
         side: Side,
         copy: u64,
     },
+    /// A copy of the leader that left is made the primary, alone, and begins a new history.
+    ForcePromote {
+        copy: u64,
+    },
     /// A replica of the leader takes the new primary's operations in place of its own.
     Resync {
         copy: u64,
     },
-    /// A replica leaves.
+    /// A replica leaves. Of the leader it is kept as stale.
     FailCopy {
         side: Side,
         copy: u64,
@@ -161,7 +172,7 @@ pub enum Event {
         f: u32,
         epoch: u64,
         write: u64,
-        batch: Batch,
+        batch: Boxed<Batch>,
     },
     /// All copies of a follower have applied a write.
     Written {
@@ -174,7 +185,7 @@ pub enum Event {
     },
     /// A new follower shard is made, under the id of its lease.
     Follow {
-        params: Params,
+        params: Boxed<Params>,
         copies: CopyCount,
         name: LeaseId,
     },
@@ -198,8 +209,8 @@ pub enum Event {
     Search {
         side: Side,
         copy: u64,
-        query: Query,
-        sort: SortKeys,
+        query: Boxed<Query>,
+        sort: Boxed<SortKeys>,
     },
     /// A client asks how a side's copies stand.
     Status {
@@ -216,7 +227,7 @@ impl Event {
     {
         match self {
             Event::Write { request } => {
-                let request = request.copy(alloc)?;
+                let request = Boxed::new(alloc, request.get().copy(alloc)?)?;
                 Ok(Event::Write { request })
             }
             Event::Replicate { side, copy, seq } => Ok(Event::Replicate {
@@ -236,6 +247,7 @@ impl Event {
                 side: *side,
                 copy: *copy,
             }),
+            Event::ForcePromote { copy } => Ok(Event::ForcePromote { copy: *copy }),
             Event::Resync { copy } => Ok(Event::Resync { copy: *copy }),
             Event::FailCopy { side, copy } => Ok(Event::FailCopy {
                 side: *side,
@@ -279,7 +291,7 @@ impl Event {
                 write,
                 batch,
             } => {
-                let batch = batch.copy(alloc)?;
+                let batch = Boxed::new(alloc, batch.get().copy(alloc)?)?;
                 Ok(Event::Apply {
                     f: *f,
                     epoch: *epoch,
@@ -297,9 +309,10 @@ impl Event {
                 copies,
                 name,
             } => {
+                let params = Boxed::new(alloc, params.get().copy())?;
                 let name = name.copy(alloc)?;
                 Ok(Event::Follow {
-                    params: params.copy(),
+                    params,
                     copies: copies.copy(),
                     name,
                 })
@@ -314,8 +327,8 @@ impl Event {
                 query,
                 sort,
             } => {
-                let query = query.copy(alloc)?;
-                let sort = sort.copy(alloc)?;
+                let query = Boxed::new(alloc, query.get().copy(alloc)?)?;
+                let sort = Boxed::new(alloc, sort.get().copy(alloc)?)?;
                 Ok(Event::Search {
                     side: *side,
                     copy: *copy,

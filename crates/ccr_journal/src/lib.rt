@@ -3,7 +3,7 @@
 //! them. A place counts from 0.
 #![tactic(auto)]
 
-mod batches;
+mod boxed;
 mod events;
 mod journals;
 mod params;
@@ -12,7 +12,8 @@ mod requests;
 mod sides;
 mod statuses;
 
-pub use batches::Batch;
+pub use boxed::Boxed;
+pub use ccr_op::Batch;
 pub use events::{Event, SortKeys};
 pub use journals::{Entry, Journal};
 pub use params::{ParamValues, Params};

@@ -1,12 +1,12 @@
 // What an event of a shard world is answered.
 ghost use Rattle.std.specs.Prelude.{◌≡◌, IfOk};
 
-use crate::batches::Batch;
+use crate::boxed::Boxed;
 use crate::sides::Phase;
 use crate::statuses::{CopyStatuses, KeptLeases};
 use ccr_doc::BadSource;
 use ccr_lease::Expired;
-use ccr_op::{Count, Term};
+use ccr_op::{Batch, Count, Term};
 use ccr_policy::Picks;
 use ccr_query::ShardAnswer;
 use ccr_wire::LeaseResult;
@@ -115,6 +115,8 @@ pub enum Refusal {
     NoFollower { f: u32 },
     /// The world is not settled.
     NotSettled,
+    /// The copy is not among those that left and are kept.
+    NoStale { copy: u64 },
 }
 
 /// The leases that an expiry dropped, in the collection's order. Contracts see the list.
@@ -147,6 +149,13 @@ impl ExpiredLeases {
         self.list.as_slice()
     }
 
+    /// The leases, with their memory.
+    pub fn into_vec(self) -> Vec<Expired>
+        ensures { result.items ≡ self }
+    {
+        self.list
+    }
+
     /// An equal list.
     pub fn copy(&self, alloc: Global) -> Result<Self, AllocError>
         ensures { IfOk result (λ other. other ≡ self.now) }
@@ -161,12 +170,8 @@ fn copy_expired(alloc: Global, leases: &[Expired]) -> Result<Vec<Expired>, Alloc
 {
     let mut copies = Vec::with_capacity(alloc, leases.len())?;
     for lease in leases {
-        let id = lease.id.copy(alloc)?;
-        copies.push(Expired {
-            id,
-            stamp: lease.stamp,
-            now: lease.now,
-        })?;
+        let copied = lease.copy(alloc)?;
+        copies.push(copied)?;
     }
     Ok(copies)
 }
@@ -182,6 +187,11 @@ pub enum Reply {
     },
     /// A copy became the primary: the new term, and how many numbers became no-ops.
     Promoted {
+        term: Term,
+        filled: u64,
+    },
+    /// A stale copy became the only one: the new term, and how many numbers became no-ops.
+    Forced {
         term: Term,
         filled: u64,
     },
@@ -230,7 +240,7 @@ pub enum Reply {
     /// How a leader shard stands.
     LeaderStatus {
         term: Term,
-        copies: CopyStatuses,
+        copies: Boxed<CopyStatuses>,
         leases: KeptLeases,
     },
     /// How a follower shard stands: `reads` and `writes` are those outstanding, `buffer` the operations in
@@ -239,7 +249,7 @@ pub enum Reply {
         phase: Phase,
         epoch: u64,
         term: Term,
-        copies: CopyStatuses,
+        copies: Boxed<CopyStatuses>,
         reads: u64,
         buffer: u64,
         writes: u64,
@@ -261,6 +271,10 @@ impl Reply {
             Reply::Written(wrote) => Ok(Reply::Written(*wrote)),
             Reply::Acked { global } => Ok(Reply::Acked { global: *global }),
             Reply::Promoted { term, filled } => Ok(Reply::Promoted {
+                term: *term,
+                filled: *filled,
+            }),
+            Reply::Forced { term, filled } => Ok(Reply::Forced {
                 term: *term,
                 filled: *filled,
             }),
@@ -304,7 +318,7 @@ impl Reply {
                 copies,
                 leases,
             } => {
-                let copies = copies.copy(alloc)?;
+                let copies = Boxed::new(alloc, copies.get().copy(alloc)?)?;
                 let leases = leases.copy(alloc)?;
                 Ok(Reply::LeaderStatus {
                     term: *term,
@@ -321,7 +335,7 @@ impl Reply {
                 buffer,
                 writes,
             } => {
-                let copies = copies.copy(alloc)?;
+                let copies = Boxed::new(alloc, copies.get().copy(alloc)?)?;
                 Ok(Reply::FollowerStatus {
                     phase: *phase,
                     epoch: *epoch,

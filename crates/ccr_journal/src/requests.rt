@@ -9,6 +9,8 @@ use std::alloc::{AllocError, Global};
 pub struct WriteRequest {
     /// The document's id.
     pub id: DocId,
+    /// The text by which it is routed in place of the id.
+    pub routing: Option<DocId>,
     /// The document's source as it was given, which may be none; without it the document is deleted.
     pub body: Option<Body>,
     /// The write is refused where the document is there.
@@ -24,6 +26,13 @@ impl WriteRequest {
         ensures { IfOk result (λ other. other ≡ self.now) }
     {
         let id = self.id.copy(alloc)?;
+        let routing = match &self.routing {
+            Some(routing) => {
+                let routing = routing.copy(alloc)?;
+                Some(routing)
+            }
+            None => None,
+        };
         let body = match &self.body {
             Some(body) => {
                 let body = body.copy(alloc)?;
@@ -33,6 +42,7 @@ impl WriteRequest {
         };
         Ok(WriteRequest {
             id,
+            routing,
             body,
             create: self.create,
             expect: self.expect,

@@ -51,6 +51,13 @@ impl CopyStatuses {
         self.list.as_slice()
     }
 
+    /// The copies, with their memory.
+    pub fn into_vec(self) -> Vec<CopyStatus>
+        ensures { result.items ≡ self }
+    {
+        self.list
+    }
+
     /// An equal list.
     pub fn copy(&self, alloc: Global) -> Result<Self, AllocError>
         ensures { IfOk result (λ other. other ≡ self.now) }
@@ -88,6 +95,13 @@ impl KeptLeases {
         ensures { result.now ≡ self.now }
     {
         self.list.as_slice()
+    }
+
+    /// The leases, with their memory.
+    pub fn into_vec(self) -> Vec<Lease>
+        ensures { result.items ≡ self }
+    {
+        self.list
     }
 
     /// An equal list.

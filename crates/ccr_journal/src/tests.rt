@@ -5,6 +5,7 @@ use ccr_policy::Picks;
 use ccr_query::{Condition, Hit, Node, Query, ShardAnswer, SortKey, SortOrder};
 use std::alloc::{AllocError, Global};
 use std::process::Abort;
+use std::sync::ArcStr;
 use std::test::Fail;
 
 /// The parameters of a follower that is made without any.
@@ -35,13 +36,6 @@ const GREATEST: [u64; 11] = [
     9_007_199_254_740_991,
     9_007_199_254_740_991,
     16_777_216,
-];
-
-/// The spelling of an index operation of number 0, term 1 and version 1, with the id `a` and the source
-/// `{"n":1}`.
-const INDEX_BYTES: [u8; 39] = [
-    1, 0, 0, 0, 0, 0, 0, 0, 0, 0, 0, 0, 0, 0, 0, 0, 1, 0, 0, 0, 0, 0, 0, 0, 1, 0, 1, 0x61, 0, 0, 0,
-    7, 0x7b, 0x22, 0x6e, 0x22, 0x3a, 0x31, 0x7d,
 ];
 
 /// The values with another one at a place, in the order of the fields.
@@ -90,39 +84,12 @@ fn a_shard_has_one_to_eight_copies(rt: HostRuntime) {
     assert_eq!(rt; count.copy().get(), 5);
 }
 
-/// The batch of the operation whose spelling these bytes are.
-fn batch_of(alloc: Global, bytes: &[u8]) -> Result<Batch, Fail> {
-    let (op, _) = ccr_op::decode(alloc, bytes)?;
-    let mut ops = Vec::new(alloc);
-    ops.push(op)?;
-    Ok(Batch::new(ops))
-}
-
 /// The batch of two operations that fill numbers.
 fn batch_of_two(alloc: Global, first: u64, second: u64) -> Result<Batch, AllocError> {
     let mut ops = Vec::new(alloc);
     ops.push(Op::no_op(first, 1))?;
     ops.push(Op::no_op(second, 1))?;
     Ok(Batch::new(ops))
-}
-
-#[test]
-fn batches_are_compared_by_each_part_of_their_operations(rt: HostRuntime) -> Result<(), Fail> {
-    let batch = batch_of(rt.alloc(), INDEX_BYTES.as_slice())?;
-    assert!(rt; batch.is(&batch.copy(rt.alloc())?));
-    // number, term, version, id and source
-    for (place, byte) in [(8, 7), (16, 7), (24, 7), (27, 0x62), (37, 0x32)] {
-        let mut bytes = INDEX_BYTES;
-        bytes[place] = byte;
-        let other = batch_of(rt.alloc(), bytes.as_slice())?;
-        assert!(rt; !batch.is(&other), "another byte at {place}");
-    }
-    let two = batch_of_two(rt.alloc(), 0, 1)?;
-    assert!(rt; two.is(&batch_of_two(rt.alloc(), 0, 1)?));
-    assert!(rt; !two.is(&batch_of_two(rt.alloc(), 1, 0)?));
-    assert!(rt; !two.is(&batch) && !batch.is(&two));
-    assert_eq!(rt; two.as_slice().len(), 2);
-    Ok(())
 }
 
 /// How many sessions the reply of an entry says were closed.
@@ -158,66 +125,24 @@ fn a_journal_keeps_its_entries_in_their_order(rt: HostRuntime) -> Result<(), Fai
     Ok(())
 }
 
-fn text(alloc: Global, text: &str) -> Result<String, AllocError> {
-    String::from_str(alloc, text)
-}
-
-/// One event of each kind that owns memory.
-fn events(rt: &(impl Alloc<A = Global> + Abort)) -> Result<Vec<Event>, AllocError> {
-    let alloc = rt.alloc();
-    let mut keys = Vec::new(alloc);
-    keys.push(SortKey {
-        field: Name::new(text(alloc, "n")?),
-        order: SortOrder::Desc,
-    })?;
-    let mut events = Vec::new(alloc);
-    events.push(Event::Write {
-        request: WriteRequest {
-            id: DocId::new(text(alloc, "a")?).expect(rt, "an id"),
-            body: Some(Body::new(text(alloc, "{\"n\":1}")?)),
-            create: false,
-            expect: Some((0, 1)),
-        },
-    })?;
-    events.push(Event::Apply {
-        f: 0,
-        epoch: 1,
-        write: 0,
-        batch: batch_of_two(alloc, 0, 1)?,
-    })?;
-    events.push(Event::Follow {
-        params: Params::new(VALUES).expect(rt, "each is in its range"),
-        copies: CopyCount::new(2).expect(rt, "two copies"),
-        name: LeaseId::new(text(alloc, "b/f")?).expect(rt, "an id"),
-    })?;
-    events.push(Event::Search {
-        side: Side::Follower(0),
-        copy: 0,
-        query: Query::new(Node::Condition(Condition::MatchAll)),
-        sort: SortKeys::new(keys),
-    })?;
-    Ok(events)
-}
-
-/// Whether the event has what that of its kind among `events` owns.
-fn has_its_parts(event: &Event) -> bool {
-    match event {
-        Event::Write { request } => request.id.as_str() == "a" && request.expect == Some((0, 1)),
-        Event::Apply { batch, .. } => batch.as_slice().len() == 2,
-        Event::Follow { name, .. } => name.as_str() == "b/f",
-        Event::Search { sort, .. } => sort.as_slice().len() == 1,
-        _ => false,
-    }
+fn text(alloc: Global, text: &str) -> Result<ArcStr, AllocError> {
+    ArcStr::from_str(alloc, text)
 }
 
 #[test]
-fn events_are_copied(rt: HostRuntime) -> Result<(), Fail> {
-    let events = events(&rt)?;
-    assert_eq!(rt; events.len(), 4);
-    for event in &events {
-        let copied = event.copy(rt.alloc())?;
-        assert!(rt; has_its_parts(&copied));
-    }
+fn a_request_is_copied(rt: HostRuntime) -> Result<(), Fail> {
+    let alloc = rt.alloc();
+    let id = DocId::new(text(alloc, "a")?).ok_or("an id")?;
+    let request = WriteRequest {
+        id,
+        routing: None,
+        body: None,
+        create: false,
+        expect: Some((0, 1)),
+    };
+    let copied = request.copy(alloc)?;
+    assert_eq!(rt; copied.id.as_str(), "a");
+    assert_eq!(rt; copied.expect, Some((0, 1)));
     Ok(())
 }
 
@@ -248,6 +173,7 @@ fn replies(rt: &(impl Alloc<A = Global> + Abort)) -> Result<Vec<Reply>, AllocErr
     let mut hits = Vec::new(alloc);
     hits.push(Hit {
         id: DocId::new(text(alloc, "a")?).expect(rt, "an id"),
+        routing: None,
         body: Body::new(text(alloc, "{}")?),
     })?;
     let mut leases = Vec::new(alloc);
@@ -273,14 +199,14 @@ fn replies(rt: &(impl Alloc<A = Global> + Abort)) -> Result<Vec<Reply>, AllocErr
     })?;
     replies.push(Reply::LeaderStatus {
         term: 1,
-        copies: statuses(alloc)?,
+        copies: Boxed::new(alloc, statuses(alloc)?)?,
         leases: KeptLeases::new(leases),
     })?;
     replies.push(Reply::FollowerStatus {
         phase: Phase::Active,
         epoch: 1,
         term: 1,
-        copies: statuses(alloc)?,
+        copies: Boxed::new(alloc, statuses(alloc)?)?,
         reads: 12,
         buffer: 0,
         writes: 0,
@@ -296,9 +222,9 @@ fn tells_its_parts(reply: &Reply) -> bool {
         Reply::Took { batch } => batch.as_slice().len() == 2,
         Reply::Found { answer } => answer.hits().len() == 1,
         Reply::LeaderStatus { copies, leases, .. } => {
-            copies.as_slice().len() == 1 && leases.as_slice().len() == 1
+            copies.get().as_slice().len() == 1 && leases.as_slice().len() == 1
         }
-        Reply::FollowerStatus { copies, .. } => copies.as_slice().len() == 1,
+        Reply::FollowerStatus { copies, .. } => copies.get().as_slice().len() == 1,
         _ => false,
     }
 }
@@ -312,4 +238,11 @@ fn replies_are_copied(rt: HostRuntime) -> Result<(), Fail> {
         assert!(rt; tells_its_parts(&copied));
     }
     Ok(())
+}
+
+#[test]
+fn an_entry_is_small(rt: HostRuntime) {
+    assert_eq!(rt; size_of::<Event>(), 40);
+    assert_eq!(rt; size_of::<Reply>(), 56);
+    assert_eq!(rt; size_of::<Entry>(), 96);
 }

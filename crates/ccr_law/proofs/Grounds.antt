@@ -8,20 +8,20 @@ use Rattle.ccr_journal.specs.declared.events.Event.{Event}
 use Rattle.ccr_model.specs.Fit.{IsFitEvent}
 use Rattle.ccr_model.specs.Tasks.{Read}
 use Rattle.ccr_model.specs.Followers.{Follower, Work, restoring, replicating, uuid_of}
-use Rattle.ccr_model.specs.Past.{Line, Past, WrittenBatch}
+use Rattle.ccr_model.specs.Past.{Line, Past, WrittenBatch, line_of}
 use Rattle.ccr_model.specs.FrameFacts.{AreTrueFrames}
 use Rattle.ccr_model.specs.Invariants.{IsTrueLeader}
 use Rattle.ccr_law_base.specs.Events.{past_by}
 use Rattle.ccr_law_base.proofs.Lists.{All-weaker}
 use Rattle.ccr_law_tasks.specs.GoodTask.{IsGoodRead}
-use Rattle.ccr_law_tasks.proofs.TaskGroup.{tasks-say}
+use Rattle.ccr_law_tasks.proofs.Group.{tasks-say}
 use Rattle.ccr_law_tasks.specs.GoodFollowers.{IsGoodWork}
-use Rattle.ccr_law_frames.proofs.Stating.{frames-say}
-use Rattle.ccr_law_frames.specs.FrameLaws.{IsAboutLease, AreOwn, AreTheirs, SessionsServe, IsMessageOf as IsTheirMessage, HasOwnMessages as HasTheirMessages}
+use Rattle.ccr_law_messages.proofs.Says.{frames-say}
+use Rattle.ccr_law_messages.specs.FrameLaws.{IsAboutLease, AreOwn, AreTheirs, SessionsServe, IsMessageOf as IsTheirMessage, HasOwnMessages as HasTheirMessages}
 use Rattle.ccr_law_followers.specs.CopyLaws.{IsGround}
 use Rattle.ccr_law_followers.proofs.Group.{group-rises}
-use Rattle.ccr_law_retained.specs.Grounds.{AsksForOwn, IsMessageOf, HasMessages, HasOwnMessages, AsksBelowNext, Rises, HasGrounds}
-use Rattle.ccr_law_retained.proofs.Floors.{floors-low}
+use Rattle.ccr_law_retention.specs.Grounds.{AsksForOwn, IsMessageOf, HasMessages, HasOwnMessages, AsksBelowNext, Rises, HasGrounds}
+use Rattle.ccr_law_retention.proofs.Floors.{floors-low}
 use Rattle.ccr_law.specs.Parts.{IsWhole}
 use Rattle.ccr_law.proofs.Leading.{true_leader}
 
@@ -87,7 +87,7 @@ grounds p now =
       order = now.leading.order;
       frames = frames.truth;
       messages = own-messages p frames.theirs;
-      reads = λ f s at. reads-below p.line (p.followers f).begun_at (p.followers f).written s.epoch s.work (now.tasks.followers.made f s at).work;
+      reads = λ f s at. reads-below (line_of p s.history) (p.followers f).begun_at (p.followers f).written s.epoch s.work (now.tasks.followers.made f s at).work;
     }
 
 -- no follower's primary knows a lesser global count after an event

@@ -1,8 +1,9 @@
 -- The leader's side of a world: what each group says of it holds at the start and is kept by each fit event, and what follows.
 use Rattle.std.specs.List.{AllByRecursion}
-use Rattle.std.proofs.Common.{ℕ, ◌≤◌, ◌^◌, ◌<◌, Option, sym, subst}
+use Rattle.std.proofs.Common.{ℕ, ◌+◌, ◌≤◌, ◌^◌, ◌<◌, List, Option, sym, subst}
 use Rattle.ccr_op.specs.Operation.{Operation}
 use Rattle.ccr_journal.specs.Params.{IsCopyCount}
+use Rattle.ccr_journal.specs.declared.events.Event.{Event}
 use Rattle.ccr_model.specs.Stores.{held}
 use Rattle.ccr_model.specs.Copies.{Copy, Replica, all_copies}
 use Rattle.ccr_model.specs.CopyFacts.{HoldsEnough, IsBehind, RetainsTruly}
@@ -10,21 +11,24 @@ use Rattle.ccr_model.specs.Leaders.{Start}
 use Rattle.ccr_model.specs.Past.{Past, start_past}
 use Rattle.ccr_model.specs.Invariants.{IsTrueReplica, IsTrueLeader}
 use Rattle.ccr_model.specs.Headline.{Retention}
-use Rattle.ccr_law_core.specs.Cores.{IsLineReplica, IsTrueCore}
+use Rattle.ccr_law_copies.specs.Cores.{IsLineReplica, IsTrueCore, HasOnward}
+use Rattle.ccr_law_base.specs.Events.{past_by}
 use Rattle.ccr_law_base.proofs.Lists.{All-weaker, All-both, All-map}
-use Rattle.ccr_law_core.proofs.Events.{core-start, core-keeps, core-says}
+use Rattle.ccr_law_copies.proofs.LeaderEvents.{core-start, core-keeps, core-says}
+use Rattle.ccr_law_copies.proofs.HistoryEvents.{histories_start, histories_keep}
+use Rattle.ccr_law_copies.proofs.HistorySays.{histories_onward}
 use Rattle.ccr_law_leases.specs.TrueLeases.{RetainsInAll}
-use Rattle.ccr_law_leases.proofs.Keeping.{leases-start, leases-keeps}
+use Rattle.ccr_law_leases.proofs.Events.{leases-start, leases-keeps}
 use Rattle.ccr_law_leases.proofs.Ordering.{order-start, order-keeps}
-use Rattle.ccr_law_leases.proofs.Saying.{leases-says}
+use Rattle.ccr_law_leases.proofs.Says.{leases-says}
 use Rattle.ccr_law_stores.specs.TrueStores.{IsSound, HoldEnough}
 use Rattle.ccr_law_stores.proofs.Counting.{count_is}
-use Rattle.ccr_law_stores.proofs.Events.{stores-start, stores-keeps, stores-say, retention-holds}
-use Rattle.ccr_law_search.specs.Searchable.{HoldsOnce}
-use Rattle.ccr_law_search.specs.Places.{HoldsForLeader}
-use Rattle.ccr_law_spelled.specs.Spelled.{IsSpelled}
-use Rattle.ccr_law_spelled.proofs.Events.{small-keeps}
-use Rattle.ccr_law_spelled.proofs.Places.{small-start, spelled-says}
+use Rattle.ccr_law_stores.proofs.StoreEvents.{stores-start, stores-keeps, stores-say, retention-holds}
+use Rattle.ccr_law_stores.specs.Searchable.{HoldsOnce}
+use Rattle.ccr_law_stores.specs.SearchPlaces.{HoldsForLeader}
+use Rattle.ccr_law_stores.specs.Spelled.{IsSpelled}
+use Rattle.ccr_law_stores.proofs.SpelledEvents.{small-keeps}
+use Rattle.ccr_law_stores.proofs.SpelledSays.{small-start, spelled-says}
 use Rattle.ccr_law.specs.Parts.{IsLeading}
 use Rattle.ccr_law.proofs.Walks.{IsKept}
 
@@ -35,6 +39,7 @@ leading-start start count = record {
   order = order-start start count;
   stores = stores-start start;
   small = small-start start;
+  histories = histories_start start;
 }
 
 pub leading-keeps : IsKept IsLeading
@@ -44,7 +49,12 @@ leading-keeps p event picks fit short now = record {
   order = order-keeps p event picks now.order;
   stores = stores-keeps p event picks now.core now.stores;
   small = small-keeps p event picks fit now.core now.stores now.small;
+  histories = histories_keep p event picks now.histories;
 }
+
+-- what was committed of each history stays
+pub leading-onward : (p : Past) (event : Event) (picks : List ℕ) → p.place + 1 < 2 ^ 32 → IsLeading p → HasOnward p (past_by p event picks)
+leading-onward p event picks short now = histories_onward p event picks short now.core now.histories
 
 -- ---- the copies
 
@@ -70,6 +80,7 @@ true_leader p now =
           (λ (r : Replica). RetainsTruly p.notes r.copy × IsBehind s.primary.leases r.copy.leases) s.replicas
           (All-both (IsLineReplica p) (λ (r : Replica). HoldsEnough (p.given r.copy.number) 0 r.copy) s.replicas core.replicas stores.replicas)
           (All-both (λ (r : Replica). RetainsTruly p.notes r.copy) (λ (r : Replica). IsBehind s.primary.leases r.copy.leases) s.replicas leases.replicas leases.behind));
+      stale = stores.stale;
       ready = core.ready;
     }
 

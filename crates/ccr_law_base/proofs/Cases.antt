@@ -34,7 +34,7 @@ on_guards P s (guard ∷ guards) effect refusing doing =
 pub read_answered : (P : Outcome Leader → Type 0) (l : Leader) (p : Poll) (c : Copy) (next : Leader)
     → ((what : Hearing) (sent : List Frame) → P (hears what next sent)) → P (answer_read l p c next)
 read_answered P l p c next heard =
-    on_if P (not (bytes_eq p.history l.start.history)) _ _ (λ other. heard _ _)
+    on_if P (not (bytes_eq p.history l.history)) _ _ (λ other. heard _ _)
     (λ same. on_if P (nat_lt p.from c.floor) _ _ (λ below. heard _ _) (λ above. heard _ _))
 
 pub task_is : (s : Follower) (t : Task) → task_of s.work ≡ Some t → s.work ≡ replicating t

@@ -2,3 +2,10 @@ pub mod Cases
 pub mod Journals
 pub mod Lists
 pub mod Tests
+pub mod Stays
+pub mod Histories
+pub mod Refusals
+pub mod Ascending
+pub mod Following
+pub mod Picks
+pub mod Settling

@@ -15,11 +15,12 @@ use Rattle.ccr_law_followers.proofs.Several.{copies-later}
 abbrev pub OkOf : Line → FollowerPast → Follower → Type 0
 OkOf line past s = FollowerOk line past.given past.restored past.written (is_bootstrapping s.work) s.copies
 
--- the claims on the follower after an event, and its primary knows no lesser global count
+-- the claims on the follower after an event, by the line of its history, which stays, and its primary knows no lesser global count
 pub record OkAfter (line : Line) (f : ℕ) (past : FollowerPast) (event : Event) (reply : Reply) (old new : Follower) : Type 0 where
   pub ok : FollowerOk line (follower_given_after f old new line.ops past.given event reply)
       (if ends_bootstrap old new then new.copies.primary.global else past.restored) (written_after f old past.written event reply) (is_bootstrapping new.work) new.copies
   pub rises : old.copies.primary.global ≤ new.copies.primary.global
+  pub stays : new.history ≡ old.history
 
 abbrev pub RowOk : Line → ℕ → FollowerPast → Event → Follower → Outcome Follower → Type 0
 RowOk line f past event s o = OkAfter line f past event o.reply s o.next
@@ -35,9 +36,9 @@ unended s new same = ap (λ (b : Bool). is_bootstrapping s.work && not b) same �
 -- an event that ends no bootstrap, where these operations were then given and these batches written
 pub settled : (line : Line) (f : ℕ) (past : FollowerPast) (event : Event) (reply : Reply) (s new : Follower) (given : ℕ → ℕ → Option Operation) (written : List WrittenBatch)
     → follower_given_after f s new line.ops past.given event reply ≡ given → written_after f s past.written event reply ≡ written
-    → is_bootstrapping new.work ≡ is_bootstrapping s.work → s.copies.primary.global ≤ new.copies.primary.global
+    → is_bootstrapping new.work ≡ is_bootstrapping s.work → new.history ≡ s.history → s.copies.primary.global ≤ new.copies.primary.global
     → FollowerOk line given past.restored written (is_bootstrapping new.work) new.copies → OkAfter line f past event reply s new
-settled line f past event reply s new given written given_is written_is same rises ok = record {
+settled line f past event reply s new given written given_is written_is same stays rises ok = record {
   ok = subst (λ (g : ℕ → ℕ → Option Operation). FollowerOk line g (if ends_bootstrap s new then new.copies.primary.global else past.restored)
       (written_after f s past.written event reply) (is_bootstrapping new.work) new.copies) (sym given_is)
       (subst (λ (w : List WrittenBatch). FollowerOk line given (if ends_bootstrap s new then new.copies.primary.global else past.restored) w (is_bootstrapping new.work) new.copies)
@@ -45,18 +46,20 @@ settled line f past event reply s new given written given_is written_is same ris
       (subst (λ (b : Bool). FollowerOk line given (if b then new.copies.primary.global else past.restored) written (is_bootstrapping new.work) new.copies)
       (sym (unended s new same)) ok));
   rises = rises;
+  stays = stays;
 }
 
--- the copies are as they were, and the bootstrap goes on or was over
+-- the copies and the history are as they were, and the bootstrap goes on or was over
 pub record Keeps (s new : Follower) : Type 0 where
   pub copies : new.copies ≡ s.copies
   pub work : is_bootstrapping new.work ≡ is_bootstrapping s.work
+  pub history : new.history ≡ s.history
 
 pub kept : (line : Line) (f : ℕ) (past : FollowerPast) (event : Event) (reply : Reply) (s new : Follower)
     → follower_given_after f s new line.ops past.given event reply ≡ past.given → written_after f s past.written event reply ≡ past.written
     → Keeps s new → OkOf line past s → OkAfter line f past event reply s new
 kept line f past event reply s new given_is written_is same ok =
-    settled line f past event reply s new past.given past.written given_is written_is same.work
+    settled line f past event reply s new past.given past.written given_is written_is same.work same.history
     (subst (λ (t : Copies). s.copies.primary.global ≤ t.primary.global) (sym same.copies) (omega arith))
     (subst (λ (t : Copies). FollowerOk line past.given past.restored past.written (is_bootstrapping new.work) t) (sym same.copies)
     (subst (λ (b : Bool). FollowerOk line past.given past.restored past.written b s.copies) (sym same.work) ok))

@@ -1,30 +1,31 @@
 -- A delivered message: which followers it changes, and the end of a bootstrap.
-use Rattle.std.specs.Prelude.{slice_get, slice_set, remove}
-use Rattle.std.proofs.Common.{◌≡◌, ℕ, ◌≤◌, ◌==◌, ◌&&◌, ◌⊎◌, inl, inr, Bool, true, false, if◌then◌else◌, Option, Some, None, List, length, refl, sym, ◌∙◌, ap, subst, arith, max, map}
+use Rattle.std.specs.Prelude.{nat_lt, slice_get, slice_set, remove}
+use Rattle.std.proofs.Common.{◌≡◌, ℕ, ◌≤◌, ◌==◌, ◌&&◌, ◌⊎◌, inl, inr, Bool, true, false, not, if◌then◌else◌, Option, Some, None, List, length, refl, sym, ◌∙◌, ap, subst, arith, max, map}
 use Rattle.ccr_op.specs.Operation.{Operation}
 use Rattle.ccr_wire.specs.Message.{Frame, kind_of_content}
 use Rattle.ccr_journal.specs.declared.events.Event.TheVariants as events
 use Rattle.ccr_journal.specs.declared.replies.Reply.{Reply}
 use Rattle.ccr_model.specs.Outcomes.{Outcome}
 use Rattle.ccr_model.specs.Given.{front_of}
-use Rattle.ccr_model.specs.Copies.{Copy, Replica}
+use Rattle.ccr_model.specs.Copies.{Copy, Replica, Copies}
 use Rattle.ccr_model.specs.Restores.{Restore, Fetch, files_of}
 use Rattle.ccr_model.specs.Followers.{Follower, restored, bootstrapped}
 use Rattle.ccr_model.specs.FollowerRows.{is_bootstrapping, follower_receive_row}
 use Rattle.ccr_model.specs.World.{State, for_follower, goes_to_leader, follower_of, at_named_follower, taken_by_receiver, deliver_row}
-use Rattle.ccr_model.specs.Past.{Line, Past, FollowerPast, WrittenBatch, ends_bootstrap}
+use Rattle.ccr_model.specs.Past.{Line, Past, FollowerPast, WrittenBatch, ends_bootstrap, line_of}
 use Rattle.ccr_law_base.proofs.Cases.{on_if}
-use Rattle.ccr_law_core.specs.Cores.{IsCore}
+use Rattle.ccr_law_copies.specs.Cores.{IsCore, IsLine}
 use Rattle.ccr_law_base.proofs.Lists.{some_equal}
-use Rattle.ccr_law_core.proofs.Replicas.{least_known-primary}
+use Rattle.ccr_law_copies.proofs.Replicas.{least_known-primary}
+use Rattle.ccr_law_copies.proofs.LeaderEvents.{line-is}
 use Rattle.ccr_law_stores.specs.TrueStores.{IsTrueHistory}
-use Rattle.ccr_law_stores.proofs.Histories.{history-stays}
 use Rattle.ccr_law_followers.specs.TrueCopies.{FollowerOk, HasTrueCopies, FetchesTruly, IsNew, all_in}
-use Rattle.ccr_law_followers.proofs.One.{Extends, extends-at, copy-empty}
-use Rattle.ccr_law_followers.proofs.Several.{copies-restored, restored_replica}
+use Rattle.ccr_law_followers.proofs.One.{copy-empty}
+use Rattle.ccr_law_followers.proofs.Several.{copies-bare, copies-restored, restored_replica}
 use Rattle.ccr_law_followers.proofs.After.{OkOf, OkAfter, Keeps, kept, unended}
-use Rattle.ccr_law_followers.proofs.Quiet.{same, Ends, Hears, receive_hears}
-use Rattle.ccr_law_followers.proofs.Join.{set_at, set_none, none_set, past_by_reply, line_by, After, extends, join}
+use Rattle.ccr_law_followers.proofs.Quiet.{same, Stops, Ends, Hears, receive_hears}
+use Rattle.ccr_law_followers.proofs.Join.{set_at, set_none, none_set, After, join}
+use Rattle.std.proofs.lemmas.Bool.Decides.{nat_tests}
 use Rattle.std.proofs.lemmas.Bool.{eqb-true}
 
 -- ---- the end of a bootstrap
@@ -48,6 +49,29 @@ ended line f past at copy keep reply s r fetch bootstrapping full numbered histo
             fresh = λ is. cc;
           }));
       rises = omega arith;
+      stays = refl;
+    }
+
+-- a bootstrap that ends without a task gives nothing
+pub stopped_ok : (line : Line) (f : ℕ) (past : FollowerPast) (at copy : ℕ) (keep : Bool) (reply : Reply) (s new : Follower) → Stops s new → OkOf line past s
+    → OkAfter line f past (events.Deliver at copy keep) reply s new
+stopped_ok line f past at copy keep reply s new stops ok =
+    let fresh : IsNew past.given past.restored past.written = ok.fresh stops.was in
+    let ends : ends_bootstrap s new ≡ true = ap (λ (b : Bool). is_bootstrapping s.work && not b) stops.is ∙ ap (λ (b : Bool). b && true) stops.was in
+    let known : s.copies.primary.global ≡ 0
+    = copy-empty line (past.given s.copies.primary.number) past.restored past.written s.copies.next s.copies.primary (fresh.none s.copies.primary.number) ok.copies.own in
+    record {
+      ok = subst (λ (b : Bool). FollowerOk line (if b then (λ own. front_of new.copies.primary.global line.ops) else past.given) (if b then new.copies.primary.global else past.restored)
+          past.written (is_bootstrapping new.work) new.copies) (sym ends)
+          (subst (λ (t : Copies). FollowerOk line (λ own. front_of t.primary.global line.ops) t.primary.global past.written (is_bootstrapping new.work) t) (sym stops.copies)
+          (record {
+            copies = copies-bare line past.given (λ own. front_of s.copies.primary.global line.ops) past.restored s.copies.primary.global past.written s.copies fresh.none
+                (λ own n. let out : nat_lt n s.copies.primary.global ≡ false = grind (arith, nat_tests, known) in ap (λ (b : Bool). if b then slice_get line.ops n else None) out) known ok.copies;
+            counted = ok.counted;
+            fresh = λ is. cc;
+          }));
+      rises = subst (λ (t : Copies). s.copies.primary.global ≤ t.primary.global) (sym stops.copies) (omega arith);
+      stays = stops.history;
     }
 
 -- ---- which followers change
@@ -60,7 +84,7 @@ pub record Came (p : Past) (at f : ℕ) (s new : Follower) : Type 0 where
   pub ends : Ends s message new
 
 pub record Moves (p : Past) (at : ℕ) (o : Outcome State) : Type 0 where
-  pub each : (f : ℕ) (s new : Follower) → slice_get p.state.followers f ≡ Some s → slice_get o.next.followers f ≡ Some new → Keeps s new ⊎ Came p at f s new
+  pub each : (f : ℕ) (s new : Follower) → slice_get p.state.followers f ≡ Some s → slice_get o.next.followers f ≡ Some new → Keeps s new ⊎ (Stops s new ⊎ Came p at f s new)
   pub none_new : (f : ℕ) (x : Follower) → slice_get p.state.followers f ≡ None → slice_get o.next.followers f ≡ Some x → ⊥
   pub gone : (f : ℕ) → slice_get o.next.followers f ≡ None → slice_get p.state.followers f ≡ None
 
@@ -87,18 +111,19 @@ follower_moves p at m flight f there named (Some x) is = record {
   gone = λ k none. set_none p.state.followers f (follower_receive_row x m).next k none;
 }
   where
-    heard : (k : ℕ) (s new : Follower) → f ≡ k → x ≡ s → (follower_receive_row x m).next ≡ new → Hears x m (follower_receive_row x m).next → Keeps s new ⊎ Came p at k s new
+    heard : (k : ℕ) (s new : Follower) → f ≡ k → x ≡ s → (follower_receive_row x m).next ≡ new → Hears x m (follower_receive_row x m).next → Keeps s new ⊎ (Stops s new ⊎ Came p at k s new)
     heard k s new place old now (inl keeps) = inl (subst (λ (y : Follower). Keeps y new) old (subst (Keeps x) now keeps))
-    heard k s new place old now (inr ends) =
-        inr record {
+    heard k s new place old now (inr (inl stops)) = inr (inl (subst (λ (y : Follower). Stops y new) old (subst (Stops x) now stops)))
+    heard k s new place old now (inr (inr ends)) =
+        inr (inr record {
           message = m;
           in_flight = there;
           named = named ∙ ap (λ (n : ℕ). Some n) place;
           ends = subst (λ (y : Follower). Ends y m new) old (subst (Ends x m) now ends);
-        }
+        })
 
     by_place : (k : ℕ) (s new : Follower) → slice_get p.state.followers k ≡ Some s
-        → (((f == k) ≡ true) × ((follower_receive_row x m).next ≡ new)) ⊎ (((f == k) ≡ false) × (slice_get p.state.followers k ≡ Some new)) → Keeps s new ⊎ Came p at k s new
+        → (((f == k) ≡ true) × ((follower_receive_row x m).next ≡ new)) ⊎ (((f == k) ≡ false) × (slice_get p.state.followers k ≡ Some new)) → Keeps s new ⊎ (Stops s new ⊎ Came p at k s new)
     by_place k s new old (inl own) =
         let e : f ≡ k = eqb-true f k own.0 in
         heard k s new e (some_equal x s (sym is ∙ (ap (slice_get p.state.followers) e ∙ old))) own.1 (receive_hears x m)
@@ -125,28 +150,25 @@ deliver_moves p at copy keep (Some m) (Some c) is =
 
 -- ---- the event
 
-pub delivered : (p : Past) (at copy : ℕ) (keep : Bool) (o : Outcome State) → IsCore p → IsCore (past_by_reply p (events.Deliver at copy keep) o) → FetchesTruly p → HasTrueCopies p
+pub delivered : (p : Past) (at copy : ℕ) (keep : Bool) (o : Outcome State) → IsCore p → FetchesTruly p → HasTrueCopies p
     → Moves p at o → After p (events.Deliver at copy keep) o
-delivered p at copy keep o core later fetches ok moves = join p (events.Deliver at copy keep) o core ok record {
+delivered p at copy keep o core fetches ok moves = join p (events.Deliver at copy keep) o ok record {
   each = λ f s new old now before. by_move f s new old before (moves.each f s new old now);
   new = λ f new none now. absurd (moves.none_new f new none now);
   gone = moves.gone;
 }
   where
-    by_move : (f : ℕ) (s new : Follower) → slice_get p.state.followers f ≡ Some s → OkOf (line_by p (events.Deliver at copy keep) o) (p.followers f) s
-        → Keeps s new ⊎ Came p at f s new → OkAfter (line_by p (events.Deliver at copy keep) o) f (p.followers f) (events.Deliver at copy keep) o.reply s new
+    by_move : (f : ℕ) (s new : Follower) → slice_get p.state.followers f ≡ Some s → OkOf (line_of p s.history) (p.followers f) s
+        → Keeps s new ⊎ (Stops s new ⊎ Came p at f s new) → OkAfter (line_of p s.history) f (p.followers f) (events.Deliver at copy keep) o.reply s new
     by_move f s new old before (inl keeps) =
-        kept (line_by p (events.Deliver at copy keep) o) f (p.followers f) (events.Deliver at copy keep) o.reply s new
-        (ap (λ (b : Bool). if b then (λ own. front_of new.copies.primary.global (line_by p (events.Deliver at copy keep) o).ops) else (p.followers f).given) (unended s new keeps.work)) refl
+        kept (line_of p s.history) f (p.followers f) (events.Deliver at copy keep) o.reply s new
+        (ap (λ (b : Bool). if b then (λ own. front_of new.copies.primary.global (line_of p s.history).ops) else (p.followers f).given) (unended s new keeps.work)) refl
         keeps before
-    by_move f s new old before (inr came) =
-        let line = line_by p (events.Deliver at copy keep) o in
+    by_move f s new old before (inr (inl stops)) = stopped_ok (line_of p s.history) f (p.followers f) at copy keep o.reply s new stops before
+    by_move f s new old before (inr (inr came)) =
         let done = came.ends.done in
-        let on : Extends p.line line = extends p (events.Deliver at copy keep) o core in
-        subst (λ (x : Follower). OkAfter (line_by p (events.Deliver at copy keep) o) f (p.followers f) (events.Deliver at copy keep) o.reply s x) (sym came.ends.is)
-        (ended (line_by p (events.Deliver at copy keep) o) f (p.followers f) at copy keep o.reply s done.next came.ends.fetch (ap is_bootstrapping came.ends.work)
-        later.rest.primary.full later.rest.primary.numbered
-        (history-stays p.line (line_by p (events.Deliver at copy keep) o) came.ends.fetch.count (all_in (files_of done.next.chunk_size came.ends.fetch)) core.rest.primary.numbered
-        (λ n lt. extends-at p.line (line_by p (events.Deliver at copy keep) o) n on lt) on.cut
-        (fetches at f came.message s came.in_flight came.named old came.ends.restore done came.ends.fetch came.ends.work came.ends.hears came.ends.stage came.ends.whole))
+        let line : IsLine (line_of p s.history) = line-is p core s.history in
+        subst (λ (x : Follower). OkAfter (line_of p s.history) f (p.followers f) (events.Deliver at copy keep) o.reply s x) (sym came.ends.is)
+        (ended (line_of p s.history) f (p.followers f) at copy keep o.reply s done.next came.ends.fetch (ap is_bootstrapping came.ends.work) line.full line.numbered
+        (fetches at f came.message s came.in_flight came.named old came.ends.restore done came.ends.fetch came.ends.work came.ends.hears came.ends.stage came.ends.other came.ends.whole)
         before)

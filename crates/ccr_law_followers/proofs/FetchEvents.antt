@@ -15,13 +15,14 @@ use Rattle.ccr_model.specs.Operations.{is_empty}
 use Rattle.ccr_model.specs.Copies.{Copy, copy_of}
 use Rattle.ccr_model.specs.Leaders.{Start, Session, session_of}
 use Rattle.ccr_model.specs.LeaderFrames.{chunk_of}
-use Rattle.ccr_model.specs.Restores.{Restore, Stage, leasing, opening, fetching, Fetch, ChunkAsked, Chunk, places_of, bytes_at, files_of, is_complete, ask_sent}
+use Rattle.ccr_model.specs.Requests.{Sending}
+use Rattle.ccr_model.specs.Restores.{Restore, Stage, leasing, opening, fetching, Fetch, ChunkAsked, Chunk, places_of, bytes_at, files_of, is_complete, ask_sent, ends_restore, restore_hears}
 use Rattle.ccr_model.specs.Followers.{Follower, Work, restoring, replicating, new_follower}
 use Rattle.ccr_model.specs.FollowerRows.{follower_receive_row, sent_write, task_of, lose_row, tick_row, follower_clock_row, lose_write_row, take_row, apply_row, written_row, renew_row, pause_row, resume_row, restart_row, unfollow_row, follower_add_copy_row, follower_replicate, follower_ack, follower_sync, follower_promote, follower_fail_copy, follower_flush, follower_merge, follower_status_row}
 use Rattle.ccr_model.specs.World.{State, for_follower, goes_to_leader, follower_of, at_named_follower, taken_by_receiver, deliver_row, follow_row, same_name, search_row}
 use Rattle.ccr_model.specs.Step.{step}
-use Rattle.ccr_model.specs.Past.{Past, start_past}
-use Rattle.ccr_model.specs.FrameFacts.{AreTrueFrames, IsTrueFrame, IsTrueContent, IsAsOpened, IsPartOf, IsWholePart, Fetching, fetching_at, fetching_in, fetching_of}
+use Rattle.ccr_model.specs.Past.{Past, start_past, line_of}
+use Rattle.ccr_model.specs.FrameFacts.{AreTrueFrames, IsTrueStage, IsTrueWork, ops_of_session, IsTrueFrame, IsTrueContent, IsAsOpened, IsPartOf, IsWholePart, Fetching, fetching_at, fetching_in, fetching_of}
 use Rattle.ccr_law_base.specs.Events.{past_by}
 use Rattle.ccr_law_base.proofs.Cases.{on_if, on_guards}
 use Rattle.ccr_law_base.proofs.Lists.{All-weaker, All-at, some_equal, find-front}
@@ -32,6 +33,7 @@ use Rattle.ccr_law_followers.proofs.Join.{set_at}
 use Rattle.ccr_law_followers.proofs.Events.{push_new, push_old, drop_same, woken_same, search_same, searched_same}
 use Rattle.ccr_law_followers.proofs.Files.{fetched}
 use Rattle.ccr_law_followers.proofs.Restoring.{SaysTruly, restore-hears}
+use Rattle.ccr_law_followers.proofs.OwnHistory.{IsOwn, own-history}
 use Rattle.ccr_law_followers.proofs.FetchRows.{WorkAfter, lose_work, tick_work, clock_work, lose_write_work, take_work, apply_work, written_work, add_copy_work, renew_work, pause_work, resume_work, restart_work, unfollow_work, status_work, receive_work}
 use Rattle.std.proofs.lemmas.Bool.{and_parts, eqb-true}
 
@@ -142,14 +144,14 @@ follow_work p params copies name None range ok =
     on_guards (WorksAfter p) p.state _ _ (λ why f new at. ok f new at)
     (λ tests f new at. by_old f new at (slice_get p.state.followers f) refl)
   where
-    by_old : (f : ℕ) (new : Follower) → slice_get (p.state.followers ++ (new_follower (length p.state.followers) params copies name p.state.leader.start.retention).next ∷ []) f ≡ Some new
+    by_old : (f : ℕ) (new : Follower) → slice_get (p.state.followers ++ (new_follower (length p.state.followers) params copies name p.state.leader.history p.state.leader.start.retention).next ∷ []) f ≡ Some new
         → (old : Option Follower) → slice_get p.state.followers f ≡ old → WorkOk p.opened new.work
     by_old f new at None none =
         subst (λ (x : Follower). WorkOk p.opened x.work)
-        (push_new p.state.followers (new_follower (length p.state.followers) params copies name p.state.leader.start.retention).next f new none at)
+        (push_new p.state.followers (new_follower (length p.state.followers) params copies name p.state.leader.history p.state.leader.start.retention).next f new none at)
         (record { some = range.chunk_size.some; stage = tt })
     by_old f new at (Some s) is =
-        let same : s ≡ new = some_equal s new (sym (push_old p.state.followers (new_follower (length p.state.followers) params copies name p.state.leader.start.retention).next f s is) ∙ at) in
+        let same : s ≡ new = some_equal s new (sym (push_old p.state.followers (new_follower (length p.state.followers) params copies name p.state.leader.history p.state.leader.start.retention).next f s is) ∙ at) in
         subst (λ (x : Follower). WorkOk p.opened x.work) same (ok f s is)
 
 -- ---- each event
@@ -165,6 +167,7 @@ works-after p (events.Sync sides.Leader copy) picks frames range ok = λ f new a
 works-after p (events.Sync (sides.Follower f) copy) picks frames range ok = works_one p p.state.flight f (λ x. follower_sync x copy) (slice_get p.state.followers f) refl (λ s at is. is) ok
 works-after p (events.Promote sides.Leader copy) picks frames range ok = λ f new at. ok f new at
 works-after p (events.Promote (sides.Follower f) copy) picks frames range ok = works_one p p.state.flight f (λ x. follower_promote x copy) (slice_get p.state.followers f) refl (λ s at is. is) ok
+works-after p (events.ForcePromote copy) picks frames range ok = λ f new at. ok f new at
 works-after p (events.Resync copy) picks frames range ok = λ f new at. ok f new at
 works-after p (events.FailCopy sides.Leader copy) picks frames range ok = λ f new at. ok f new at
 works-after p (events.FailCopy (sides.Follower f) copy) picks frames range ok =
@@ -261,13 +264,31 @@ whole_fetch sessions size next f some ok complete =
           (subst (AllByRecursion (λ (place : ℕ × ℕ). is_covered f.asks f.chunks place ≡ true)) every ok.covered));
     }
 
+stage-own : (p : Past) (history : List ℕ) (stage : Stage) → IsTrueStage p history stage → IsOwn p.opened_in history stage
+stage-own p history (leasing a) true_of = tt
+stage-own p history (opening a) true_of = tt
+stage-own p history (fetching f) true_of = sym true_of.session.same_history ∙ true_of.same_history
+
+-- the session that a bootstrap fetches after a message was opened in the history that its follower follows
+pub fetch-own : (p : Past) → AreTrueFrames p → (at f : ℕ) (m : Frame) (s : Follower) → slice_get p.state.flight at ≡ Some m → slice_get p.state.followers f ≡ Some s
+    → (r : Restore) (done : Sending Restore) (fetch : Fetch) → s.work ≡ restoring r → restore_hears r s.now m ≡ Some done → done.next.stage ≡ fetching fetch → ends_restore r m ≡ false
+    → p.opened_in fetch.session ≡ s.history
+fetch-own p frames at f m s in_flight there r done fetch work came stage other =
+    let works : IsTrueWork p s.history (restoring r)
+    = subst (IsTrueWork p s.history) work (All-at (λ (x : Follower). IsTrueWork p x.history x.work) p.state.followers f s frames.works there) in
+    let own_stage : IsOwn p.opened_in s.history r.stage = stage-own p s.history r.stage works.1 in
+    let content : IsTrueContent p m.follower m.request m.content = (All-at (IsTrueFrame p) p.state.flight at m frames.flight in_flight).content in
+    subst (IsOwn p.opened_in s.history) stage (own-history p.opened_in s.history r s.now m works.0 own_stage
+    (λ number history count sizes is. (subst (IsTrueContent p m.follower m.request) is content).same_history) other done came)
+
 -- the files that a bootstrap ends with serve for the line's operations below the session's count
 pub fetches-true : (p : Past) → AreTrueFrames p → SessionsHold p → HasTrueFetches p → FetchesTruly p
-fetches-true p frames hold ok at f m s in_flight named there r done fetch work came stage complete =
+fetches-true p frames hold ok at f m s in_flight named there r done fetch work came stage other complete =
     let after : RestoreOk p.opened done.next
     = restore-hears p.opened r s.now m (subst (WorkOk p.opened) work (ok f s there)) (says_truly p at f m s r frames in_flight named there work) done came in
     let own : FetchOk p.opened done.next.chunk_size done.next.next_request fetch = subst (StageOk p.opened done.next.chunk_size done.next.next_request) stage after.stage in
-    subst (λ (n : ℕ). IsTrueHistory p.line n (all_in (files_of done.next.chunk_size fetch))) (sym own.same_count)
-    (subst (IsTrueHistory p.line own.session.count)
+    let own_history : p.opened_in fetch.session ≡ s.history = fetch-own p frames at f m s in_flight there r done fetch work came stage other in
+    subst (λ (n : ℕ). IsTrueHistory (line_of p s.history) n (all_in (files_of done.next.chunk_size fetch))) (sym own.same_count)
+    (subst (IsTrueHistory (line_of p s.history) own.session.count)
     (sym (fetched own.session done.next.chunk_size fetch (whole_fetch p.opened done.next.chunk_size done.next.next_request fetch after.some own complete)))
-    (hold fetch.session own.session own.is_opened))
+    (subst (λ (history : List ℕ). IsTrueHistory (line_of p history) own.session.count (ops_of_session own.session)) own_history (hold fetch.session own.session own.is_opened)))

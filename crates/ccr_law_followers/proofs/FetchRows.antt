@@ -13,9 +13,9 @@ use Rattle.ccr_model.specs.Outcomes.{Outcome}
 use Rattle.ccr_model.specs.Requests.{Sending}
 use Rattle.ccr_model.specs.Leaders.{Session}
 use Rattle.ccr_model.specs.Tasks.{Task, Read, is_active, stopped, ticked, sent_reads, read_sent}
-use Rattle.ccr_model.specs.Restores.{Restore, Stage, leasing, opening, fetching, is_complete, restore_hears, restore_ticked, sent_requests}
+use Rattle.ccr_model.specs.Restores.{Restore, Stage, leasing, opening, fetching, is_complete, ends_restore, restore_hears, restore_ticked, sent_requests}
 use Rattle.ccr_model.specs.Followers.{Follower, Work, restoring, replicating, bootstrapped}
-use Rattle.ccr_model.specs.FollowerRows.{with_task, does, restore_done, restore_heard, hear_read, task_heard, follower_receive_row, task_lost, bootstrap_lost, lose_row, tick_row, follower_clock_row, Sent, lose_write_row, take_row, apply_row, lacks, write_done, written_row, renew_row, pause_row, resume_row, restart_row, unfollow_row, follower_add_copy_row, follower_status_row}
+use Rattle.ccr_model.specs.FollowerRows.{with_task, does, restore_done, restore_heard, restore_ended, hear_read, task_heard, follower_receive_row, task_lost, bootstrap_lost, lose_row, tick_row, follower_clock_row, Sent, lose_write_row, take_row, apply_row, lacks, write_done, written_row, renew_row, pause_row, resume_row, restart_row, unfollow_row, follower_add_copy_row, follower_status_row}
 use Rattle.ccr_law_base.proofs.Cases.{on_if, on_guards}
 use Rattle.ccr_law_followers.specs.Fetches.{RestoreOk, WorkOk}
 use Rattle.ccr_law_followers.proofs.Restoring.{SaysTruly, IsOkIf, restore-lost, restore-ticked, restore-hears}
@@ -154,9 +154,10 @@ receive_work sessions s m says ok =
     on_if (WorkAfter sessions) (list_any (λ n. n == m.request) s.lease_requests) _ _ (λ is. ok) (λ isnt. by_work s.work refl)
   where
     by_work : (work : Work) → s.work ≡ work → WorkAfter sessions (elim work as (λ _. Outcome Follower) [
-      | restoring r ↦ restore_heard s (restore_hears r s.now m)
+      | restoring r ↦ if ends_restore r m then restore_ended s r else restore_heard s (restore_hears r s.now m)
       | replicating t ↦ task_heard s t m.content (read_sent t m.request)
     ])
     by_work (restoring r) is =
-        restore_heard_work sessions s (restore_hears r s.now m) ok (restore-hears sessions r s.now m (subst (WorkOk sessions) is ok) (says r is))
+        on_if (WorkAfter sessions) (ends_restore r m) (restore_ended s r) (restore_heard s (restore_hears r s.now m)) (λ ends. tt)
+        (λ goes_on. restore_heard_work sessions s (restore_hears r s.now m) ok (restore-hears sessions r s.now m (subst (WorkOk sessions) is ok) (says r is)))
     by_work (replicating t) is = task_work sessions s t m.content (read_sent t m.request) ok

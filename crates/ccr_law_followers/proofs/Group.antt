@@ -10,6 +10,7 @@ use Rattle.ccr_model.specs.Step.{step}
 use Rattle.ccr_model.specs.Past.{Past, start_past}
 use Rattle.ccr_model.specs.Headline.{HoldsCommitted}
 use Rattle.ccr_law_base.specs.Events.{past_by}
+use Rattle.ccr_law_copies.specs.Cores.{HasOnward}
 use Rattle.ccr_law_followers.specs.TrueCopies.{HasGoodCount, IsTrueCopyGroup, Rises}
 use Rattle.ccr_law_followers.specs.Fetches.{HasGoodRanges}
 use Rattle.ccr_law_followers.specs.CopyLaws.{HasTrueFollowers, IsGround}
@@ -28,9 +29,9 @@ good-ranges _ fit = tt
 pub group-start : (start : Start) → HasTrueFollowers (start_past start)
 group-start start = record { copies = followers-start start; fetches = fetches-start start }
 
-pub group-keeps : (p : Past) (event : Event) (picks : List ℕ) → IsGround p → IsFitEvent event → HasTrueFollowers p → HasTrueFollowers (past_by p event picks)
-group-keeps p event picks g fit ok = record {
-  copies = followers-keep p event picks g.core (writes-committed p g.tasks) (fetches-true p g.frames g.sessions ok.fetches) (good-count event fit) ok.copies;
+pub group-keeps : (p : Past) (event : Event) (picks : List ℕ) → IsGround p → HasOnward p (past_by p event picks) → IsFitEvent event → HasTrueFollowers p → HasTrueFollowers (past_by p event picks)
+group-keeps p event picks g onward fit ok = record {
+  copies = followers-keep p event picks g.core onward (writes-committed p g.tasks) (fetches-true p g.frames g.sessions ok.fetches) (good-count event fit) ok.copies;
   fetches = fetches-keep p event picks g.frames (good-ranges event fit) ok.fetches;
 }
 

@@ -12,5 +12,7 @@ pub mod Files
 pub mod Asks
 pub mod Restoring
 pub mod FetchRows
+pub mod OwnHistory
 pub mod FetchEvents
 pub mod Group
+pub mod MergesLeased

@@ -8,17 +8,17 @@ use Rattle.ccr_tracker.specs.Numbers.{Numbers, has, marked, no_numbers, filled_b
 use Rattle.ccr_model.specs.Operations.{has_number}
 use Rattle.ccr_model.specs.Stores.{held, stored}
 use Rattle.ccr_model.specs.Copies.{Copy, new_copy, taking}
-use Rattle.ccr_model.specs.Given.{no_ops, or_else, gaining, gaining_batch, front_of}
+use Rattle.ccr_model.specs.Given.{IsAmong, no_ops, or_else, gaining, gaining_batch, front_of}
 use Rattle.ccr_model.specs.Followers.{restored_copy}
 use Rattle.ccr_model.specs.Past.{Line, WrittenBatch}
 use Rattle.ccr_model.specs.FrameFacts.{IsCommitted}
 use Rattle.ccr_model.specs.Invariants.{HasProcessed, IsTrueFollowerCopy}
 use Rattle.ccr_law_base.proofs.Lists.{All-weaker, slice_get-take}
-use Rattle.ccr_law_core.proofs.Sets.{or_false, canonical-marked, has-marked, has-below, count-marked}
-use Rattle.ccr_law_core.proofs.Changes.{some-within, some-of, gained, gained-some}
+use Rattle.ccr_law_copies.proofs.Sets.{or_false, canonical-marked, has-marked, has-below, count-marked}
+use Rattle.ccr_law_copies.proofs.CopyChanges.{some-within, some-of, gained, gained-some}
 use Rattle.ccr_law_stores.specs.TrueStores.{StoreOk, IsTrueHistory, AreNumbered}
-use Rattle.ccr_law_stores.proofs.Keeping.{store-given, store-gains, store-counts}
-use Rattle.ccr_law_stores.proofs.Views.{holds-enough}
+use Rattle.ccr_law_stores.proofs.CopyChanges.{store-given, store-gains, store-counts}
+use Rattle.ccr_law_stores.proofs.StoreViews.{holds-enough}
 use Rattle.ccr_law_stores.proofs.Histories.{low_some, copy-restored}
 use Rattle.ccr_law_followers.specs.TrueCopies.{CopyOk, all_in}
 
@@ -223,6 +223,27 @@ copy-empty line ops restored written next c none ok = zero_of c.global refl
         let low : c.global ≤ c.seen.count = ok.reached in
         let there : has c.seen 0 ≡ true = has-below c.seen 0 (omega arith) in
         let out : has c.seen 0 ≡ false = ok.processed 0 ∙ ap (λ (o : Option Operation). is_some o) (none 0) in cc
+
+-- of a copy that was given nothing, also where that is told in other words
+pub copy-bare : (line : Line) (ops more : ℕ → Option Operation) (restored again : ℕ) (written : List WrittenBatch) (next : ℕ) (c : Copy)
+    → ((n : ℕ) → ops n ≡ None) → ((n : ℕ) → more n ≡ None) → again ≡ 0 → CopyOk line ops restored written next c → CopyOk line more again written next c
+copy-bare line ops more restored again written next c none none_more nothing ok = record {
+  old = ok.old;
+  committed = λ n op at. let out : more n ≡ None = none_more n in cc;
+  processed = λ n. ok.processed n ∙ ap (λ (o : Option Operation). is_some o) (none n ∙ sym (none_more n));
+  ordered = ok.ordered;
+  reached = ok.reached;
+  store = record {
+    low = ok.store.low;
+    since = omega arith;
+    closed = ok.store.closed;
+    ours = All-weaker (IsAmong ops) (IsAmong more) (λ op is. let out : ops op.seq ≡ None = none op.seq in cc) (held c.store) ok.store.ours;
+    once = ok.store.once;
+    kept = λ n le some. let out : more n ≡ None = none_more n in cc;
+    covered = λ n x at out. let none_there : more n ≡ None = none_more n in cc;
+  };
+  all = ok.all;
+}
 
 pub copy-restores : (line : Line) (count : ℕ) (files : List (List Operation)) (next : ℕ) (c : Copy) → c.number < next → c.floor ≡ 0 → c.commit ≡ 0
     → line.cut ≤ length line.ops → ((n : ℕ) (op : Operation) → n < count → slice_get line.ops n ≡ Some op → op.seq ≡ n)

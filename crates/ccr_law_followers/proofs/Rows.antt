@@ -20,12 +20,12 @@ use Rattle.ccr_model.specs.FollowerRows.{with_copies, is_bootstrapping, follower
 use Rattle.ccr_model.specs.Past.{Line, FollowerPast, WrittenBatch}
 use Rattle.ccr_model.specs.FrameFacts.{IsCommitted}
 use Rattle.ccr_law_base.proofs.Cases.{on_if, on_guards}
-use Rattle.ccr_law_core.proofs.Replicas.{least_known-replaced, least_known-changed}
-use Rattle.ccr_law_core.proofs.Changes.{some-of}
-use Rattle.ccr_law_core.proofs.Sets.{count-marked}
-use Rattle.ccr_law_core.proofs.Rows.{inside}
+use Rattle.ccr_law_copies.proofs.Replicas.{least_known-replaced, least_known-changed}
+use Rattle.ccr_law_copies.proofs.CopyChanges.{some-of}
+use Rattle.ccr_law_copies.proofs.Sets.{count-marked}
+use Rattle.ccr_law_copies.proofs.LeaderRows.{inside}
 use Rattle.ccr_law_stores.proofs.Counting.{in-find, found_at}
-use Rattle.ccr_law_stores.proofs.Keeping.{store-flushes}
+use Rattle.ccr_law_stores.proofs.CopyChanges.{store-flushes}
 use Rattle.ccr_law_stores.proofs.Merging.{copy-merges}
 use Rattle.ccr_law_followers.specs.TrueCopies.{ReplicaOk, CopiesOk, CopiesOf}
 use Rattle.ccr_law_followers.proofs.One.{copy-knows, copy-takes}
@@ -103,10 +103,10 @@ replicated line given restored written s copy seq r ok is there =
 pub replicate_ok : (line : Line) (f : ℕ) (past : FollowerPast) (s : Follower) (copy seq : ℕ) (found : Option Replica) → replica_of s.copies copy ≡ found → OkOf line past s
     → RowOk line f past (events.Replicate (sides.Follower f) copy seq) s (within (with_copies s) (replicate_row s.copies copy seq found))
 unfolding replicate_row
-replicate_ok line f past s copy seq None is ok = settled line f past _ _ s (with_copies s s.copies) past.given past.written refl refl refl (omega arith) ok
+replicate_ok line f past s copy seq None is ok = settled line f past _ _ s (with_copies s s.copies) past.given past.written refl refl refl refl (omega arith) ok
 replicate_ok line f past s copy seq (Some r) is ok =
     on_guards (λ (o : Outcome Copies). RowOk line f past (events.Replicate (sides.Follower f) copy seq) s (within (with_copies s) o)) s.copies _ _
-    (λ why. settled line f past (events.Replicate (sides.Follower f) copy seq) (replies.Refused why) s (with_copies s s.copies) past.given past.written refl refl refl (omega arith) ok)
+    (λ why. settled line f past (events.Replicate (sides.Follower f) copy seq) (replies.Refused why) s (with_copies s s.copies) past.given past.written refl refl refl refl (omega arith) ok)
     (λ tests. taken (not-false (has s.copies.primary.seen seq) tests.1.0))
   where
     never : has s.copies.primary.seen seq ≡ true → has s.copies.primary.seen seq ≡ is_some (past.given s.copies.primary.number seq)
@@ -123,7 +123,7 @@ replicate_ok line f past s copy seq (Some r) is ok =
           replicas = replaced copy (record r { copy = knowing s.copies.primary.global (taking r.copy seq (op_at seq (held s.copies.primary.store))) }) s.copies.replicas;
         }))
         (gave past.given copy (gaining (past.given copy) seq (slice_get line.ops seq))) past.written
-        (ap (λ (b : Bool). if b then gave past.given copy (gaining (past.given copy) seq (slice_get line.ops seq)) else past.given) (itself f)) refl refl (omega arith)
+        (ap (λ (b : Bool). if b then gave past.given copy (gaining (past.given copy) seq (slice_get line.ops seq)) else past.given) (itself f)) refl refl refl (omega arith)
         (record {
           copies = replicated line past.given past.restored past.written s.copies copy seq r ok.copies
               (found_in line past.given past.restored past.written s.copies copy r ok.copies is) there;
@@ -138,14 +138,14 @@ replicate_ok line f past s copy seq (Some r) is ok =
 pub ack_ok : (line : Line) (f : ℕ) (past : FollowerPast) (s : Follower) (copy : ℕ) (found : Option Replica) → replica_of s.copies copy ≡ found → OkOf line past s
     → RowOk line f past (events.Ack (sides.Follower f) copy) s (within (with_copies s) (ack_row s.copies copy found))
 unfolding ack_row
-ack_ok line f past s copy None is ok = settled line f past _ _ s (with_copies s s.copies) past.given past.written refl refl refl (omega arith) ok
+ack_ok line f past s copy None is ok = settled line f past _ _ s (with_copies s s.copies) past.given past.written refl refl refl refl (omega arith) ok
 ack_ok line f past s copy (Some r) is ok =
     on_guards (λ (o : Outcome Copies). RowOk line f past (events.Ack (sides.Follower f) copy) s (within (with_copies s) o)) s.copies _ _
-    (λ why. settled line f past (events.Ack (sides.Follower f) copy) (replies.Refused why) s (with_copies s s.copies) past.given past.written refl refl refl (omega arith) ok)
+    (λ why. settled line f past (events.Ack (sides.Follower f) copy) (replies.Refused why) s (with_copies s s.copies) past.given past.written refl refl refl refl (omega arith) ok)
     (λ tests.
     let found : Found line past.given past.restored past.written s.copies copy r = found_in line past.given past.restored past.written s.copies copy r ok.copies is in
     let new : Replica = record r { known = r.copy.seen.count; acked = true } in
-    settled line f past (events.Ack (sides.Follower f) copy) _ s _ past.given past.written refl refl refl (omega arith)
+    settled line f past (events.Ack (sides.Follower f) copy) _ s _ past.given past.written refl refl refl refl (omega arith)
     (record {
       copies = recounted line past.given past.restored past.written s.copies.primary (replaced copy new s.copies.replicas) s.copies.next
           (one_kept line past.given past.restored past.written s.copies copy r new ok.copies found refl (record {
@@ -189,17 +189,17 @@ leases_aside line ops restored written primary global next r other c ok =
 pub sync_ok : (line : Line) (f : ℕ) (past : FollowerPast) (s : Follower) (copy : ℕ) (found : Option Replica) → replica_of s.copies copy ≡ found → OkOf line past s
     → RowOk line f past (events.Sync (sides.Follower f) copy) s (within (with_copies s) (sync_row s.copies copy found))
 unfolding sync_row
-sync_ok line f past s copy None is ok = settled line f past _ _ s (with_copies s s.copies) past.given past.written refl refl refl (omega arith) ok
+sync_ok line f past s copy None is ok = settled line f past _ _ s (with_copies s s.copies) past.given past.written refl refl refl refl (omega arith) ok
 sync_ok line f past s copy (Some r) is ok =
     on_guards (λ (o : Outcome Copies). RowOk line f past (events.Sync (sides.Follower f) copy) s (within (with_copies s) o)) s.copies _ _
-    (λ why. settled line f past (events.Sync (sides.Follower f) copy) (replies.Refused why) s (with_copies s s.copies) past.given past.written refl refl refl (omega arith) ok)
+    (λ why. settled line f past (events.Sync (sides.Follower f) copy) (replies.Refused why) s (with_copies s s.copies) past.given past.written refl refl refl refl (omega arith) ok)
     (λ tests.
     let found : Found line past.given past.restored past.written s.copies copy r = found_in line past.given past.restored past.written s.copies copy r ok.copies is in
     let level : s.copies.primary.global ≤ r.copy.seen.count = found.replica.level in
     let behind : r.copy.global ≤ s.copies.primary.global = found.replica.behind in
     let new : Replica = record r { copy = taking_leases s.copies.primary (knowing s.copies.primary.global r.copy) } in
     settled line f past (events.Sync (sides.Follower f) copy) replies.Done s (with_copies s (record s.copies { replicas = replaced copy new s.copies.replicas }))
-    past.given past.written refl refl refl (omega arith)
+    past.given past.written refl refl refl refl (omega arith)
     (record {
       copies = one_kept line past.given past.restored past.written s.copies copy r new ok.copies found
           (on_if (λ (x : Copy). x.number ≡ r.copy.number) (supersedes s.copies.primary.leases r.copy.leases) _ _ (λ yes. refl) (λ other. refl))
@@ -224,19 +224,19 @@ sync_ok line f past s copy (Some r) is ok =
 pub promote_ok : (line : Line) (f : ℕ) (past : FollowerPast) (s : Follower) (copy : ℕ) (found : Option Replica) → replica_of s.copies copy ≡ found → OkOf line past s
     → RowOk line f past (events.Promote (sides.Follower f) copy) s (within (with_copies s) (follower_promote_row s.copies copy found))
 unfolding follower_promote_row
-promote_ok line f past s copy None is ok = settled line f past _ _ s (with_copies s s.copies) past.given past.written refl refl refl (omega arith) ok
+promote_ok line f past s copy None is ok = settled line f past _ _ s (with_copies s s.copies) past.given past.written refl refl refl refl (omega arith) ok
 promote_ok line f past s copy (Some r) is ok =
     let found : Found line past.given past.restored past.written s.copies copy r = found_in line past.given past.restored past.written s.copies copy r ok.copies is in
-    settled line f past (events.Promote (sides.Follower f) copy) _ s _ past.given past.written refl refl refl
+    settled line f past (events.Promote (sides.Follower f) copy) _ s _ past.given past.written refl refl refl refl
     (promoted-rises line past.given past.restored past.written s.copies copy r ok.copies found)
     (record { copies = promoted line past.given past.restored past.written s.copies copy r ok.copies found; counted = omega arith; fresh = ok.fresh })
 
 pub fail_copy_ok : (line : Line) (f : ℕ) (past : FollowerPast) (s : Follower) (copy : ℕ) (found : Option Replica) → OkOf line past s
     → RowOk line f past (events.FailCopy (sides.Follower f) copy) s (within (with_copies s) (fail_copy_row s.copies copy found))
 unfolding fail_copy_row
-fail_copy_ok line f past s copy None ok = settled line f past _ _ s (with_copies s s.copies) past.given past.written refl refl refl (omega arith) ok
+fail_copy_ok line f past s copy None ok = settled line f past _ _ s (with_copies s s.copies) past.given past.written refl refl refl refl (omega arith) ok
 fail_copy_ok line f past s copy (Some r) ok =
-    settled line f past (events.FailCopy (sides.Follower f) copy) replies.Done s _ past.given past.written refl refl refl (omega arith)
+    settled line f past (events.FailCopy (sides.Follower f) copy) replies.Done s _ past.given past.written refl refl refl refl (omega arith)
     (record {
       copies = recounted line past.given past.restored past.written s.copies.primary _ s.copies.next (left line past.given past.restored past.written s.copies copy ok.copies);
       counted = omega arith;
@@ -248,13 +248,13 @@ pub add_copy_ok : (line : Line) (f : ℕ) (past : FollowerPast) (s : Follower) �
 unfolding follower_add_copy_row add_copy_row
 add_copy_ok line f past s ok =
     on_guards (RowOk line f past (events.AddCopy (sides.Follower f)) s) s _ _
-    (λ why. settled line f past (events.AddCopy (sides.Follower f)) (replies.Refused why) s s past.given past.written refl refl refl (omega arith) ok)
+    (λ why. settled line f past (events.AddCopy (sides.Follower f)) (replies.Refused why) s s past.given past.written refl refl refl refl (omega arith) ok)
     (λ over. on_guards (λ (o : Outcome Copies). RowOk line f past (events.AddCopy (sides.Follower f)) s (within (with_copies s) o)) s.copies _ _
-    (λ why. settled line f past (events.AddCopy (sides.Follower f)) (replies.Refused why) s (with_copies s s.copies) past.given past.written refl refl refl (omega arith) ok)
+    (λ why. settled line f past (events.AddCopy (sides.Follower f)) (replies.Refused why) s (with_copies s s.copies) past.given past.written refl refl refl refl (omega arith) ok)
     (λ tests.
     settled line f past (events.AddCopy (sides.Follower f)) (replies.Added s.copies.next) s _
     (gave past.given s.copies.next (past.given s.copies.primary.number)) past.written
-    (ap (λ (b : Bool). if b then gave past.given s.copies.next (past.given s.copies.primary.number) else past.given) (itself f)) refl refl (omega arith)
+    (ap (λ (b : Bool). if b then gave past.given s.copies.next (past.given s.copies.primary.number) else past.given) (itself f)) refl refl refl (omega arith)
     (record {
       copies = recounted line (gave past.given s.copies.next (past.given s.copies.primary.number)) past.restored past.written s.copies.primary
           (s.copies.replicas ++ newcomer s.copies ∷ []) (s.copies.next + 1) (added line past.given past.restored past.written s.copies ok.copies);
@@ -277,9 +277,9 @@ changed_counted s copy store floor commit counted =
 pub flush_ok : (line : Line) (f : ℕ) (past : FollowerPast) (s : Follower) (copy : ℕ) (found : Option Copy) → OkOf line past s
     → RowOk line f past (events.Flush (sides.Follower f) copy) s (within (with_copies s) (flush_row s.copies copy found))
 unfolding flush_row
-flush_ok line f past s copy None ok = settled line f past _ _ s (with_copies s s.copies) past.given past.written refl refl refl (omega arith) ok
+flush_ok line f past s copy None ok = settled line f past _ _ s (with_copies s s.copies) past.given past.written refl refl refl refl (omega arith) ok
 flush_ok line f past s copy (Some c) ok =
-    settled line f past (events.Flush (sides.Follower f) copy) (replies.Flushed c.global) s _ past.given past.written refl refl refl
+    settled line f past (events.Flush (sides.Follower f) copy) (replies.Flushed c.global) s _ past.given past.written refl refl refl refl
     (on_if (λ (t : Copies). s.copies.primary.global ≤ t.primary.global) (s.copies.primary.number == copy) _ _ (λ own. omega arith) (λ other. omega arith))
     (record {
       copies = changed_inside line past.given past.restored past.written s.copies copy (λ own. flushed own.store) (λ own. own.floor) (λ own. own.global)
@@ -291,9 +291,9 @@ flush_ok line f past s copy (Some c) ok =
 pub merge_ok : (line : Line) (f : ℕ) (past : FollowerPast) (s : Follower) (copy : ℕ) (picks : List ℕ) (found : Option Copy) → OkOf line past s
     → RowOk line f past (events.Merge (sides.Follower f) copy) s (within (with_copies s) (merge_row s.copies s.retention copy picks found))
 unfolding merge_row
-merge_ok line f past s copy picks None ok = settled line f past _ _ s (with_copies s s.copies) past.given past.written refl refl refl (omega arith) ok
+merge_ok line f past s copy picks None ok = settled line f past _ _ s (with_copies s s.copies) past.given past.written refl refl refl refl (omega arith) ok
 merge_ok line f past s copy picks (Some c) ok =
-    settled line f past (events.Merge (sides.Follower f) copy) _ s _ past.given past.written refl refl refl
+    settled line f past (events.Merge (sides.Follower f) copy) _ s _ past.given past.written refl refl refl refl
     (on_if (λ (t : Copies). s.copies.primary.global ≤ t.primary.global) (s.copies.primary.number == copy) _ _ (λ own. omega arith) (λ other. omega arith))
     (record {
       copies = changed_inside line past.given past.restored past.written s.copies copy

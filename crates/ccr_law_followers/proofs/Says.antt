@@ -7,7 +7,7 @@ use Rattle.ccr_model.specs.Stores.{held}
 use Rattle.ccr_model.specs.Copies.{Copy, Replica, Copies, all_copies}
 use Rattle.ccr_model.specs.Given.{IsAmong}
 use Rattle.ccr_model.specs.Followers.{Follower, Work, restoring, replicating}
-use Rattle.ccr_model.specs.Past.{Line, Past, FollowerPast, WrittenBatch}
+use Rattle.ccr_model.specs.Past.{Line, Past, FollowerPast, WrittenBatch, line_of}
 use Rattle.ccr_model.specs.CopyFacts.{IsKnownTruly}
 use Rattle.ccr_model.specs.FrameFacts.{IsCommitted}
 use Rattle.ccr_model.specs.Invariants.{HasProcessed, IsTrueFollowerCopy, AreTrueCopies, IsTrueReplication}
@@ -37,8 +37,8 @@ copies-say line past s ok = record {
 
 pub followers-say : (p : Past) → HasTrueCopies p → (f : ℕ) (s : Follower) → slice_get p.state.followers f ≡ Some s → IsTrueCopyGroup p f s
 followers-say p ok f s at = record {
-  copies = copies-say p.line (p.followers f) s.copies (ok.made f s at).copies;
-  written = All-copies (λ (c : Copy). AllByRecursion (HasProcessed c) (p.followers f).written) p.line (p.followers f).given (p.followers f).restored (p.followers f).written s.copies
+  copies = copies-say (line_of p s.history) (p.followers f) s.copies (ok.made f s at).copies;
+  written = All-copies (λ (c : Copy). AllByRecursion (HasProcessed c) (p.followers f).written) (line_of p s.history) (p.followers f).given (p.followers f).restored (p.followers f).written s.copies
       (λ c is. is.all) (ok.made f s at).copies;
 }
 
@@ -46,17 +46,17 @@ followers-say p ok f s at = record {
 
 pub holds-committed : (p : Past) → HasTrueCopies p → HoldsCommitted p
 holds-committed p ok =
-    All-places (λ (s : Follower). AllByRecursion (λ (c : Copy). AllByRecursion (IsCommitted p.line) (held c.store)) (all_copies s.copies)) p.state.followers
+    All-places (λ (s : Follower). AllByRecursion (λ (c : Copy). AllByRecursion (IsCommitted (line_of p s.history)) (held c.store)) (all_copies s.copies)) p.state.followers
     (λ f s at.
-    All-copies (λ (c : Copy). AllByRecursion (IsCommitted p.line) (held c.store)) p.line (p.followers f).given (p.followers f).restored (p.followers f).written s.copies
-    (λ c is. All-weaker (IsAmong ((p.followers f).given c.number)) (IsCommitted p.line) (λ op among. (is.committed op.seq op among).0) (held c.store) is.store.ours)
+    All-copies (λ (c : Copy). AllByRecursion (IsCommitted (line_of p s.history)) (held c.store)) (line_of p s.history) (p.followers f).given (p.followers f).restored (p.followers f).written s.copies
+    (λ c is. All-weaker (IsAmong ((p.followers f).given c.number)) (IsCommitted (line_of p s.history)) (λ op among. (is.committed op.seq op among).0) (held c.store) is.store.ours)
     (ok.made f s at).copies)
 
 -- ---- what is taken of the tasks
 
-pub writes-committed : (p : Past) → ((f : ℕ) (s : Follower) → slice_get p.state.followers f ≡ Some s → IsTrueReplication p.line (p.followers f) s.work) → WritesCommitted p
+pub writes-committed : (p : Past) → ((f : ℕ) (s : Follower) → slice_get p.state.followers f ≡ Some s → IsTrueReplication (line_of p s.history) (p.followers f) s.work) → WritesCommitted p
 writes-committed p truth f s at = by_work s.work (truth f s at)
   where
-    by_work : (work : Work) → IsTrueReplication p.line (p.followers f) work → HasCommittedBatches p.line work
+    by_work : (work : Work) → IsTrueReplication (line_of p s.history) (p.followers f) work → HasCommittedBatches (line_of p s.history) work
     by_work (restoring r) true_of = tt
     by_work (replicating t) true_of = true_of.0.batches

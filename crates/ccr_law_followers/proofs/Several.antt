@@ -14,12 +14,12 @@ use Rattle.ccr_journal.specs.Params.{IsCopyCount}
 use Rattle.ccr_model.specs.FrameFacts.{IsCommitted}
 use Rattle.ccr_law_base.proofs.Cases.{on_if}
 use Rattle.ccr_law_base.proofs.Lists.{All-weaker, All-both, All-push, All-map, All-map_back, All-replaced, All-without, All-find, All-changed}
-use Rattle.ccr_law_core.proofs.Replicas.{gave-same, gave-other, given-aside, replaced-alone, Apart-replaced, Apart-without, others-without, Apart-map, Apart-push, Apart-changed, least_known-primary, least_known-each, least_known-bound}
-use Rattle.ccr_law_core.proofs.Rows.{inside}
-use Rattle.ccr_law_core.proofs.Events.{fresh, fresh_apart}
+use Rattle.ccr_law_copies.proofs.Replicas.{gave-same, gave-other, given-aside, replaced-alone, Apart-replaced, Apart-without, others-without, Apart-map, Apart-push, Apart-changed, least_known-primary, least_known-each, least_known-bound}
+use Rattle.ccr_law_copies.proofs.LeaderRows.{inside}
+use Rattle.ccr_law_copies.proofs.LeaderEvents.{fresh, fresh_apart}
 use Rattle.ccr_law_stores.specs.TrueStores.{IsTrueStore, IsTrueHistory}
 use Rattle.ccr_law_followers.specs.TrueCopies.{CopyOk, ReplicaOk, CopiesOk, CopiesOf, IsNew, all_in}
-use Rattle.ccr_law_followers.proofs.One.{Extends, copy-later, copy-next, copy-knows, copy-takes_all, taking_all, taking_all-number, taking_all-global, copy-fresh, copy-empty, copy-restores}
+use Rattle.ccr_law_followers.proofs.One.{Extends, copy-later, copy-next, copy-knows, copy-takes_all, taking_all, taking_all-number, taking_all-global, copy-fresh, copy-empty, copy-bare, copy-restores}
 use Rattle.std.proofs.lemmas.Bool.{eqb-true}
 use Rattle.ccr_law_base.proofs.Tests.{itself}
 
@@ -328,6 +328,26 @@ copies-fresh line copies count = record {
   own = copy-fresh line 0 copies (let some : 1 ≤ copies = count.some in omega arith);
   others = let some : 1 ≤ copies = count.some in fresh_others line copies 1 (copies - 1) (omega arith) (omega arith);
   apart = fresh_apart 1 (copies - 1);
+}
+
+-- of copies that were given nothing, also where that is told in other words
+pub copies-bare : (line : Line) (given more : ℕ → ℕ → Option Operation) (restored again : ℕ) (written : List WrittenBatch) (s : Copies)
+    → ((copy n : ℕ) → given copy n ≡ None) → ((copy n : ℕ) → more copy n ≡ None) → again ≡ 0 → CopiesOf line given restored written s → CopiesOf line more again written s
+copies-bare line given more restored again written s none none_more nothing ok = record {
+  own = copy-bare line (given s.primary.number) (more s.primary.number) restored again written s.next s.primary (none s.primary.number) (none_more s.primary.number) nothing ok.own;
+  others = All-weaker (λ (r : Replica). ReplicaOk line (given r.copy.number) restored written s.primary.number s.primary.global s.next r)
+      (λ (r : Replica). ReplicaOk line (more r.copy.number) again written s.primary.number s.primary.global s.next r)
+      (λ r is. record {
+        copy = copy-bare line (given r.copy.number) (more r.copy.number) restored again written s.next r.copy (none r.copy.number) (none_more r.copy.number) nothing is.copy;
+        other = is.other;
+        truly = is.truly;
+        behind = is.behind;
+        level = is.level;
+        resynced = is.resynced;
+        acked = is.acked;
+      })
+      s.replicas ok.others;
+  apart = ok.apart;
 }
 
 -- a replica that was restored

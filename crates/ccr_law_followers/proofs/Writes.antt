@@ -6,8 +6,8 @@ use Rattle.std.proofs.Common.{◌≡◌, ℕ, Bool, true, false, not, if◌then�
 use Rattle.std.proofs.lemmas.List.Concat.{flat_map-cons}
 use Rattle.ccr_op.specs.Operation.{Operation}
 use Rattle.ccr_tracker.specs.Numbers.{has}
-use Rattle.ccr_journal.specs.Sameness.{same_operations}
-use Rattle.ccr_journal.proofs.Sameness.{same_operations-equal}
+use Rattle.ccr_op.specs.Sameness.{same_operations}
+use Rattle.ccr_op.proofs.Sameness.{same_operations-equal}
 use Rattle.ccr_journal.specs.declared.events.Event.TheVariants as events
 use Rattle.ccr_journal.specs.declared.replies.Reply.TheVariants as replies
 use Rattle.ccr_journal.specs.declared.replies.Refusal.TheVariants.{NoBatch, NotWritten}
@@ -60,7 +60,7 @@ pub apply_ok : (line : Line) (f : ℕ) (past : FollowerPast) (s : Follower) (epo
 unfolding apply_row
 apply_ok line f past s epoch number batch found is committed ok =
     on_guards (RowOk line f past (events.Apply f epoch number batch) s) s _ _
-    (λ why. settled line f past (events.Apply f epoch number batch) (replies.Refused why) s s past.given past.written refl refl refl (omega arith) ok)
+    (λ why. settled line f past (events.Apply f epoch number batch) (replies.Refused why) s s past.given past.written refl refl refl refl (omega arith) ok)
     (λ tests. by_write found is tests.1.0)
   where
     taken : (w : Sent) → sent_write s.work number ≡ Some w → w.write.batch ≡ batch
@@ -69,7 +69,7 @@ apply_ok line f past s epoch number batch found is committed ok =
         let ops = gaining_batch (past.given s.copies.primary.number) batch line.ops in
         settled line f past (events.Apply f epoch number batch) (replies.Applied (new_in s.copies.primary.seen batch)) s (with_copies s (applied batch s.copies))
         (gave past.given s.copies.primary.number ops) past.written
-        (ap (λ (b : Bool). if b then gave past.given s.copies.primary.number ops else past.given) (itself f)) refl refl
+        (ap (λ (b : Bool). if b then gave past.given s.copies.primary.number ops else past.given) (itself f)) refl refl refl
         (let global : (taking_all s.copies.primary batch).global ≡ s.copies.primary.global = taking_all-global s.copies.primary batch in omega arith)
         (record {
           copies = recounted line (gave past.given s.copies.primary.number ops) past.restored past.written (taking_all s.copies.primary batch) s.copies.replicas s.copies.next
@@ -136,18 +136,18 @@ none_lacks batch (c ∷ copies) none =
 pub written_ok : (line : Line) (f : ℕ) (past : FollowerPast) (s : Follower) (number : ℕ) (found : Option Sent) → sent_write s.work number ≡ found → OkOf line past s
     → RowOk line f past (events.Written f number) s (written_row s number found)
 unfolding written_row
-written_ok line f past s number None is ok = settled line f past (events.Written f number) (replies.Refused (NoBatch number)) s s past.given past.written refl refl refl (omega arith) ok
+written_ok line f past s number None is ok = settled line f past (events.Written f number) (replies.Refused (NoBatch number)) s s past.given past.written refl refl refl refl (omega arith) ok
 written_ok line f past s number (Some w) is ok = by_lacking (lacks w.write.batch s.copies) refl
   where
     by_lacking : (o : Option ℕ) → lacks w.write.batch s.copies ≡ o → RowOk line f past (events.Written f number) s (write_done s w o)
-    by_lacking (Some copy) lacking = settled line f past (events.Written f number) (replies.Refused (NotWritten copy)) s s past.given past.written refl refl refl (omega arith) ok
+    by_lacking (Some copy) lacking = settled line f past (events.Written f number) (replies.Refused (NotWritten copy)) s s past.given past.written refl refl refl refl (omega arith) ok
     by_lacking None none =
         settled line f past (events.Written f number) replies.Done s (with_task s (write_ended w.task w.write).next) past.given
         (past.written ++ record { epoch = s.epoch; batch = w.write.batch } ∷ []) refl
         (ap (λ (b : Bool). if b then option_map_or (λ (sent : Sent). past.written ++ record { epoch = s.epoch; batch = sent.write.batch } ∷ []) (sent_write s.work number) past.written else past.written)
         (itself f)
         ∙ ap (λ (o : Option Sent). option_map_or (λ (sent : Sent). past.written ++ record { epoch = s.epoch; batch = sent.write.batch } ∷ []) o past.written) is)
-        (sym (replicating_if_sent s.work number w is)) (omega arith)
+        (sym (replicating_if_sent s.work number w is)) refl (omega arith)
         (record {
           copies = copies-written line past.given past.restored past.written (record { epoch = s.epoch; batch = w.write.batch }) s.copies
               (All-weaker (λ (c : Copy). has_all w.write.batch c ≡ true) (λ (c : Copy). HasProcessed c (record { epoch = s.epoch; batch = w.write.batch }))

@@ -5,7 +5,7 @@ use Rattle.ccr_model.specs.Restores.{Restore, Stage, leasing, opening, fetching,
 use Rattle.ccr_model.specs.Leaders.{Session, session_of}
 use Rattle.ccr_model.specs.LeaderFrames.{sizes_of, chunk_of}
 use Rattle.ccr_model.specs.Followers.{Follower, Work, restoring, replicating}
-use Rattle.ccr_model.specs.Past.{Past}
+use Rattle.ccr_model.specs.Past.{Past, line_of}
 use Rattle.ccr_model.specs.FrameFacts.{ops_of_session}
 use Rattle.ccr_journal.specs.Params.{AreInRange}
 use Rattle.ccr_journal.specs.declared.events.Event.{Event}
@@ -64,9 +64,9 @@ WorkOk opened (replicating t) = Unit {0}
 abbrev pub HasTrueFetches : Past → Type 0
 HasTrueFetches p = (f : ℕ) (s : Follower) → slice_get p.state.followers f ≡ Some s → WorkOk p.opened s.work
 
--- the files of each session serve for the line's operations below its count
+-- the files of each session serve for the operations of its history below its count
 abbrev pub SessionsHold : Past → Type 0
-SessionsHold p = (number : ℕ) (session : Session) → session_of p.opened number ≡ Some session → IsTrueHistory p.line session.count (ops_of_session session)
+SessionsHold p = (number : ℕ) (session : Session) → session_of p.opened number ≡ Some session → IsTrueHistory (line_of p (p.opened_in number)) session.count (ops_of_session session)
 
 -- a new follower's parameters are in their ranges
 abbrev pub HasGoodRanges : Event → Type 0

@@ -10,15 +10,15 @@ use Rattle.ccr_journal.specs.declared.events.Event.TheVariants as events
 use Rattle.ccr_model.specs.Requests.{Sending}
 use Rattle.ccr_model.specs.Copies.{Copy, Replica, Copies, least_known}
 use Rattle.ccr_model.specs.TaskFacts.{batches_of}
-use Rattle.ccr_model.specs.Restores.{Restore, fetching, Fetch, files_of, is_complete, restore_hears}
+use Rattle.ccr_model.specs.Restores.{Restore, fetching, Fetch, files_of, is_complete, ends_restore, restore_hears}
 use Rattle.ccr_model.specs.Followers.{Follower, Work, restoring, replicating}
 use Rattle.ccr_model.specs.FollowerRows.{is_bootstrapping}
 use Rattle.ccr_model.specs.World.{State, follower_of}
-use Rattle.ccr_model.specs.Past.{Line, Past, FollowerPast, WrittenBatch, no_past}
+use Rattle.ccr_model.specs.Past.{Line, Past, FollowerPast, WrittenBatch, no_past, line_of}
 use Rattle.ccr_model.specs.FrameFacts.{IsCommitted}
 use Rattle.ccr_model.specs.Invariants.{HasProcessed, AreTrueCopies}
 use Rattle.ccr_model.specs.Headline.{KeepsWritten}
-use Rattle.ccr_law_core.specs.Cores.{Apart}
+use Rattle.ccr_law_copies.specs.Cores.{Apart}
 use Rattle.ccr_law_stores.specs.TrueStores.{IsTrueStore, IsTrueHistory}
 
 -- ---- one copy
@@ -67,14 +67,14 @@ pub record FollowerOk (line : Line) (given : ℕ → ℕ → Option Operation) (
   pub counted : least_known s.primary.seen.count s.replicas ≤ s.primary.global
   pub fresh : bootstrapping ≡ true → IsNew given restored written
 
--- the copies of each follower; of a follower that wasn't made yet nothing is told
-pub record FollowersOk (line : Line) (pasts : ℕ → FollowerPast) (followers : List Follower) : Type 0 where
-  pub made : (f : ℕ) (s : Follower) → slice_get followers f ≡ Some s → FollowerOk line (pasts f).given (pasts f).restored (pasts f).written (is_bootstrapping s.work) s.copies
+-- the copies of each follower, by the line of its own history; of a follower that wasn't made yet nothing is told
+pub record FollowersOk (lines : List ℕ → Line) (pasts : ℕ → FollowerPast) (followers : List Follower) : Type 0 where
+  pub made : (f : ℕ) (s : Follower) → slice_get followers f ≡ Some s → FollowerOk (lines s.history) (pasts f).given (pasts f).restored (pasts f).written (is_bootstrapping s.work) s.copies
   pub unmade : (f : ℕ) → slice_get followers f ≡ None → pasts f ≡ no_past
 
 -- what holds of the followers' copies at a place
 abbrev pub HasTrueCopies : Past → Type 0
-HasTrueCopies p = FollowersOk p.line p.followers p.state.followers
+HasTrueCopies p = FollowersOk (line_of p) p.followers p.state.followers
 
 -- ---- what earlier claims say of a place
 
@@ -84,7 +84,7 @@ HasCommittedBatches line (restoring r) = Unit {0}
 HasCommittedBatches line (replicating t) = AllByRecursion (IsCommitted line) (batches_of t.writes)
 
 abbrev pub WritesCommitted : Past → Type 0
-WritesCommitted p = (f : ℕ) (s : Follower) → slice_get p.state.followers f ≡ Some s → HasCommittedBatches p.line s.work
+WritesCommitted p = (f : ℕ) (s : Follower) → slice_get p.state.followers f ≡ Some s → HasCommittedBatches (line_of p s.history) s.work
 
 -- all operations of some files
 abbrev pub all_in : List (List Operation) → List Operation
@@ -93,12 +93,12 @@ all_in files = flat_map {X = List Operation} {A = Operation} (λ part. part) fil
 -- where a message brings the last part of the files, these are the line's history up to the session's count
 abbrev pub BringsHistory : Line → Follower → Frame → Type 0
 BringsHistory line s m =
-    (r : Restore) (done : Sending Restore) (f : Fetch) → s.work ≡ restoring r → restore_hears r s.now m ≡ Some done → done.next.stage ≡ fetching f
+    (r : Restore) (done : Sending Restore) (f : Fetch) → s.work ≡ restoring r → restore_hears r s.now m ≡ Some done → done.next.stage ≡ fetching f → ends_restore r m ≡ false
     → is_complete done.next.chunk_size f ≡ true → IsTrueHistory line f.count (all_in (files_of done.next.chunk_size f))
 
 abbrev pub FetchesTruly : Past → Type 0
 FetchesTruly p = (at f : ℕ) (m : Frame) (s : Follower) → slice_get p.state.flight at ≡ Some m → follower_of p.state.followers m.follower ≡ Some f
-    → slice_get p.state.followers f ≡ Some s → BringsHistory p.line s m
+    → slice_get p.state.followers f ≡ Some s → BringsHistory (line_of p s.history) s m
 
 -- a new follower has 1 to 8 copies
 abbrev pub HasGoodCount : Event → Type 0
@@ -108,7 +108,7 @@ HasGoodCount _ = Unit {0}
 -- ---- what the claims imply
 
 pub record IsTrueCopyGroup (p : Past) (f : ℕ) (s : Follower) : Type 0 where
-  pub copies : AreTrueCopies p.line (p.followers f) s.copies
+  pub copies : AreTrueCopies (line_of p s.history) (p.followers f) s.copies
   pub written : KeepsWritten (p.followers f) s.copies
 
 -- no follower's primary knows a lesser global count than before, be it another primary

@@ -2,9 +2,9 @@ pub mod Answers
 pub mod Collections
 pub mod Expiring
 pub mod Finding
-pub mod Keeping
+pub mod Events
 pub mod Messages
 pub mod Notes
 pub mod Ordering
 pub mod Rows
-pub mod Saying
+pub mod Says

@@ -29,7 +29,7 @@ use Rattle.ccr_model.specs.LeaseHistory.{LeaseDeed, LeaseNote, ends_answered, is
 use Rattle.ccr_model.specs.LeaseHistory as history
 use Rattle.ccr_model.specs.Step.{IsLegal, step}
 use Rattle.ccr_model.specs.World.{start_state}
-use Rattle.ccr_model.specs.Past.{Past, start_past, past_of, delivered_to_leader}
+use Rattle.ccr_model.specs.Past.{Past, start_past, past_of, delivered_to_leader, notes_kept}
 use Rattle.ccr_law_leases.specs.NoteOrder.{is_answer, IsAnsweredAt, ComesAfter, LossesComeAfter, AreInOrder, HasNotesInOrder, StaysUnbroken}
 use Rattle.ccr_law_base.proofs.Lists.{All-weaker, All-every, All-append, All-map}
 use Rattle.ccr_law_leases.proofs.Messages.{adding}
@@ -136,11 +136,18 @@ order-more place new notes of order = record {
 pub order-start : (start : Start) → IsCopyCount start.copies → HasNotesInOrder (start_past start)
 order-start start counts = record { earlier = tt; losses = tt }
 
+-- of a history that begins nothing is noted yet
+order-kept : (place : ℕ) (notes : List LeaseNote) (event : Event) (reply : Reply) → AreInOrder place notes → AreInOrder place (notes_kept notes event reply)
+order-kept place notes (events.ForcePromote copy) (replies.Forced term filled) order = record { earlier = tt; losses = tt }
+order-kept place notes _ _ order = order
+
 pub order-keeps : (p : Past) (event : Event) (picks : List ℕ) → HasNotesInOrder p → HasNotesInOrder (past_by p event picks)
 order-keeps p event picks order =
     order-more p.place
-    (notes_of p.state.leader (step p.state event picks).next.leader.copies p.place (delivered_to_leader p.state event) event (step p.state event picks).reply) p.notes
-    (notes-places p.state.leader (step p.state event picks).next.leader.copies p.place (delivered_to_leader p.state event) event (step p.state event picks).reply) order
+    (notes_of p.state.leader (step p.state event picks).next.leader.copies p.place (delivered_to_leader p.state event) event (step p.state event picks).reply)
+    (notes_kept p.notes event (step p.state event picks).reply)
+    (notes-places p.state.leader (step p.state event picks).next.leader.copies p.place (delivered_to_leader p.state event) event (step p.state event picks).reply)
+    (order-kept p.place p.notes event (step p.state event picks).reply order)
 
 pub order-holds : (start : Start) → IsCopyCount start.copies → (entries : List Entry) → IsLegal (start_state start) entries → HasNotesInOrder (past_of (start_past start) entries)
 order-holds start counts entries legal = by_entries HasNotesInOrder (by_events HasNotesInOrder order-keeps) (start_past start) entries legal (order-start start counts)

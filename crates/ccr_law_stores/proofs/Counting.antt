@@ -112,3 +112,12 @@ in-given ops xs op all given there =
     let own : ops at.0.seq ≡ Some at.0 = All-in (λ (x : Operation). ops x.seq ≡ Some x) xs at.0 all (in-find op.seq xs at.0 at.1) in
     let same : at.0 ≡ op = some_equal at.0 op (sym own ∙ (ap ops at.2 ∙ given)) in
     subst (IsIn xs) same (in-find op.seq xs at.0 at.1)
+
+-- the operation that is told of a number that is there is in the list, under its number
+pub given-in : (ops : ℕ → Option Operation) (xs : List Operation) (n : ℕ) (op : Operation) → AllByRecursion (λ (x : Operation). ops x.seq ≡ Some x) xs
+    → ops n ≡ Some op → has_number xs n ≡ true → IsIn xs op × (op.seq ≡ n)
+given-in ops xs n op all given there =
+    let at : (x : Operation) × (op_at n xs ≡ Some x) × (x.seq ≡ n) = found_at xs n there in
+    let own : ops at.0.seq ≡ Some at.0 = All-in (λ (x : Operation). ops x.seq ≡ Some x) xs at.0 all (in-find n xs at.0 at.1) in
+    let same : at.0 ≡ op = some_equal at.0 op (sym own ∙ (ap ops at.2 ∙ given)) in
+    (subst (IsIn xs) same (in-find n xs at.0 at.1), subst (λ (x : Operation). x.seq ≡ n) same at.2)

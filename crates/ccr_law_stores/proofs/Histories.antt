@@ -12,13 +12,13 @@ use Rattle.ccr_model.specs.CopyFacts.{IsGivenBelow}
 use Rattle.ccr_model.specs.FrameFacts.{IsCommitted}
 use Rattle.ccr_model.specs.Given.{IsAmong, front_of}
 use Rattle.ccr_model.specs.Past.{Line}
-use Rattle.ccr_law_core.specs.Cores.{PrimaryOk}
+use Rattle.ccr_law_copies.specs.Cores.{PrimaryOk}
 use Rattle.ccr_law_base.proofs.Lists.{All-weaker, All-both, All-filter, All-filter_test, some_equal, All-in}
 use Rattle.ccr_law_stores.specs.TrueStores.{times, StoreOk, IsTrueStore, AreNumbered, IsTrueHistory, ShowsLine}
 use Rattle.ccr_law_stores.proofs.Counting.{times-filter, count_is, has-same}
 use Rattle.ccr_law_stores.proofs.Holding.{in_parts, in-files, append_none}
-use Rattle.ccr_law_stores.proofs.Keeping.{not_missed-above, store-above}
-use Rattle.ccr_law_stores.proofs.Views.{Held, store-shows}
+use Rattle.ccr_law_stores.proofs.CopyChanges.{not_missed-above, store-above}
+use Rattle.ccr_law_stores.proofs.StoreViews.{Held, store-shows}
 
 -- ---- what is held below the count
 
@@ -105,15 +105,15 @@ history-stays line later count xs numbered same rises ok = record {
 
 -- ---- the same documents
 
-pub live-same : (S T : Operation → Type 0) (id body : List ℕ) → ((op : Operation) → S op → T op) → ((op : Operation) → T op → S op) → IsLive S id body → IsLive T id body
-live-same S T id body forth back live =
+pub live-same : (S T : Operation → Type 0) (id : List ℕ) (routing : Option (List ℕ)) (body : List ℕ) → ((op : Operation) → S op → T op) → ((op : Operation) → T op → S op) → IsLive S id routing body → IsLive T id routing body
+live-same S T id routing body forth back live =
     record { op = live.op; is_in = forth live.op live.is_in; puts = live.puts; greatest = λ y there about. live.greatest y (back y there) about }
 
 pub view-same : (S S_too T T_too : Operation → Type 0) → ((op : Operation) → S op → S_too op) → ((op : Operation) → S_too op → S op)
     → ((op : Operation) → T op → T_too op) → ((op : Operation) → T_too op → T op) → SameView S T → SameView S_too T_too
-view-same S S_too T T_too s_forth s_back t_forth t_back view id body = (
-  (λ (live : IsLive S_too id body). live-same T T_too id body t_forth t_back ((view id body).0 (live-same S_too S id body s_back s_forth live))),
-  (λ (live : IsLive T_too id body). live-same S S_too id body s_forth s_back ((view id body).1 (live-same T_too T id body t_back t_forth live))),
+view-same S S_too T T_too s_forth s_back t_forth t_back view id routing body = (
+  (λ (live : IsLive S_too id routing body). live-same T T_too id routing body t_forth t_back ((view id routing body).0 (live-same S_too S id routing body s_back s_forth live))),
+  (λ (live : IsLive T_too id routing body). live-same S S_too id routing body s_forth s_back ((view id routing body).1 (live-same T_too T id routing body t_back t_forth live))),
 )
 
 pub take_place : (n : ℕ) (xs : List Operation) (x : Operation) → IsIn (take n xs) x → (k : ℕ) × (k < n) × (slice_get xs k ≡ Some x)

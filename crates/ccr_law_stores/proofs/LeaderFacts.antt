@@ -9,14 +9,14 @@ use Rattle.ccr_model.specs.World.{start_state}
 use Rattle.ccr_model.specs.Step.{IsLegal}
 use Rattle.ccr_model.specs.Past.{Past, start_past, past_of}
 use Rattle.ccr_model.specs.Invariants.{IsTrueReplica, IsTrueLeader}
-use Rattle.ccr_law_core.specs.Cores.{IsCore, IsLineReplica, IsTrueCore}
+use Rattle.ccr_law_copies.specs.Cores.{IsCore, IsLineReplica, IsTrueCore}
 use Rattle.ccr_law_base.proofs.Lists.{All-weaker, All-both}
-use Rattle.ccr_law_core.proofs.Events.{core-at, core-says}
+use Rattle.ccr_law_copies.proofs.LeaderEvents.{core-at, core-says}
 use Rattle.ccr_law_leases.specs.TrueLeases.{HasTrueLeases, RetainsInAll}
-use Rattle.ccr_law_leases.proofs.Keeping.{leases-hold}
-use Rattle.ccr_law_leases.proofs.Saying.{leases-says}
+use Rattle.ccr_law_leases.proofs.Events.{leases-hold}
+use Rattle.ccr_law_leases.proofs.Says.{leases-says}
 use Rattle.ccr_law_stores.specs.TrueStores.{HasTrueStores, HoldEnough}
-use Rattle.ccr_law_stores.proofs.Events.{stores-at, stores-say}
+use Rattle.ccr_law_stores.proofs.StoreEvents.{stores-at, stores-say}
 
 pub leader-says : (p : Past) → IsCore p → HasTrueLeases p → HasTrueStores p → IsTrueLeader p
 leader-says p core leases stores =
@@ -36,6 +36,7 @@ leader-says p core leases stores =
           (λ r all. record { line = all.0.0.line; known = all.0.0.known; store = all.0.1; leases = all.1.0; behind = all.1.1 }) replicas
           (All-both (λ (r : Replica). IsLineReplica p r × Enough r) (λ (r : Replica). Retains r × Behind r) replicas
           (All-both (IsLineReplica p) Enough replicas line.replicas enough.replicas) (All-both Retains Behind replicas retains.replicas retains.behind));
+      stale = enough.stale;
       ready = line.ready;
     }
 

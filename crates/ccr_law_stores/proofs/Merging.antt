@@ -18,7 +18,7 @@ use Rattle.ccr_law_stores.specs.TrueStores.{Passed, IsLeast, IsNotMissed, times,
 use Rattle.ccr_law_stores.proofs.Counting.{times-append, times-filter, times_none, times_some, has_by_times, none_by_times, in-given}
 use Rattle.ccr_law_stores.proofs.Holding.{in_parts}
 use Rattle.ccr_law_stores.proofs.Joining.{others_at, times-picked, times-joined, All-picked, All-joined}
-use Rattle.ccr_law_stores.proofs.Keeping.{not_missed-fewer, store-same, store-floors}
+use Rattle.ccr_law_stores.proofs.CopyChanges.{not_missed-fewer, store-same, store-floors}
 use Rattle.std.proofs.lemmas.Bool.{and_parts, not-true}
 
 -- ---- what the tests of a merge say
@@ -69,15 +69,15 @@ least_by ops xs there id op all few is x given held about =
 
 abbrev pub drops_kind : ℕ → List Operation → Operation → Kind → Bool
 drops_kind count xs op kind = elim kind as (λ _. Bool) [
-  | Index id body ↦ is_passed id op count xs
-  | Delete id ↦ is_passed id op count xs || is_least id op xs
+  | Index id routing body ↦ is_passed id op count xs
+  | Delete id routing ↦ is_passed id op count xs || is_least id op xs
   | NoOp ↦ true
 ]
 
 pub not_missed_by : (ops : ℕ → Option Operation) (xs : List Operation) (there : ℕ → Bool) (op : Operation) (count : ℕ) (kind : Kind) → AllByRecursion (IsAmong ops) xs
     → ((n : ℕ) → there n ≡ true → has_number xs n ≡ true) → drops_kind count xs op kind ≡ true → IsNotMissed ops there count op.seq kind
-not_missed_by ops xs there op count (Index id body) all few is = passed_by ops xs id op count all is
-not_missed_by ops xs there op count (Delete id) all few is =
+not_missed_by ops xs there op count (Index id routing body) all few is = passed_by ops xs id op count all is
+not_missed_by ops xs there op count (Delete id routing) all few is =
     (elim (is_passed id op count xs) as (λ b. is_passed id op count xs ≡ b → (b || is_least id op xs) ≡ true → Passed ops count id op.seq ⊎ IsLeast ops there id op.seq) [
       | true ↦ λ passes either. inl (passed_by ops xs id op count all passes)
       | false ↦ λ isnt either. inr (least_by ops xs there id op all few either)

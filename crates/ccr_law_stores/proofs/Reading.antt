@@ -9,12 +9,14 @@ use Rattle.ccr_model.specs.FrameFacts.{IsCommitted}
 use Rattle.ccr_model.specs.Given.{IsAmong}
 use Rattle.ccr_model.specs.Past.{Line, Past}
 use Rattle.ccr_law_base.proofs.Cases.{on_if}
-use Rattle.ccr_law_core.specs.Cores.{IsCore}
+use Rattle.ccr_law_copies.specs.Cores.{IsCore}
 use Rattle.ccr_law_base.proofs.Lists.{All-weaker, some_equal}
-use Rattle.ccr_law_core.proofs.Rows.{Found, found_in}
+use Rattle.ccr_law_copies.proofs.LeaderRows.{Found, found_in}
+use Rattle.ccr_law_copies.proofs.LeaderEvents.{living}
+use Rattle.ccr_law_stores.proofs.StoreEvents.{living_stores}
 use Rattle.ccr_law_stores.specs.TrueStores.{IsSound, HasTrueStores, Brings, BringsCommitted}
 use Rattle.ccr_law_stores.proofs.Runs.{read-brings}
-use Rattle.ccr_law_stores.proofs.Rows.{IsFit, primary-fit, replica-fit, found-store}
+use Rattle.ccr_law_stores.proofs.StoreRows.{IsFit, primary-fit, replica-fit, found-store}
 
 -- what was given below the global count is the line's
 pub brings-committed : (line : Line) (ops : ℕ → Option Operation) (c : Copy) (from max_ops max_bytes : ℕ) (xs : List Operation) → c.global ≤ line.cut
@@ -53,8 +55,8 @@ read-of-leader p copy c from max_ops max_bytes core ok at high =
     replica-reads (Some r) is own =
         subst (λ (x : Copy). x.floor ≤ from → BringsCommitted p.line from x.global max_ops max_bytes (read_ops x from max_ops max_bytes)) (some_equal r.copy c own) (λ le.
         let s = p.state.leader.copies in
-        let f : Found p.line p.given s.primary.number s.next copy r = found_in p.line p.given s copy r core is in
+        let f : Found p.line p.given s.primary.number s.next copy r = found_in p.line p.given s copy r (living p core) is in
         let fit : IsFit (p.given copy) r.copy = replica-fit p.line s.primary.number s.next (p.given copy) r core.rest.primary.full f.replica in
-        let own_store : IsSound (p.given copy) 0 r.copy × (r.copy.number ≡ copy) = found-store p.given s copy r is ok in
+        let own_store : IsSound (p.given copy) 0 r.copy × (r.copy.number ≡ copy) = found-store p.given s copy r is (living_stores p ok) in
         brings-committed p.line (p.given copy) r.copy from max_ops max_bytes (read_ops r.copy from max_ops max_bytes) f.replica.low f.replica.committed
         (read-brings (p.given copy) 0 r.copy from max_ops max_bytes fit.whole (omega arith) own_store.0.store)) high

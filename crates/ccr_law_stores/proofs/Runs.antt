@@ -15,7 +15,7 @@ use Rattle.ccr_law_base.proofs.Cases.{on_if}
 use Rattle.ccr_law_base.proofs.Lists.{All-weaker, All-both, All-in}
 use Rattle.ccr_law_stores.specs.TrueStores.{one, times, IsTrueStore, Brings}
 use Rattle.ccr_law_stores.proofs.Counting.{in-find, found_at}
-use Rattle.ccr_law_stores.proofs.Keeping.{below_or}
+use Rattle.ccr_law_stores.proofs.CopyChanges.{below_or}
 
 -- the run of so many numbers
 abbrev pub run_of : List Operation → ℕ → ℕ → List Operation

@@ -13,13 +13,9 @@ use Rattle.ccr_model.specs.Leaders.{Leader, Session}
 use Rattle.ccr_model.specs.LeaderFrames.{new_session}
 use Rattle.ccr_model.specs.FrameFacts.{HoldsHistory, ops_of_session}
 use Rattle.ccr_model.specs.Given.{IsAmong, front_of}
-use Rattle.ccr_journal.specs.declared.journals.Entry.{Entry}
-use Rattle.ccr_model.specs.Outcomes.{Outcome}
-use Rattle.ccr_model.specs.World.{State}
-use Rattle.ccr_model.specs.Past.{Line, Past, past_with, given_after}
-use Rattle.ccr_law_core.specs.Cores.{PrimaryOk, IsCore}
+use Rattle.ccr_model.specs.Past.{Line, Past}
+use Rattle.ccr_law_copies.specs.Cores.{PrimaryOk, IsFront, IsCore}
 use Rattle.ccr_law_base.proofs.Lists.{All-weaker, All-both, All-map, All-append_front, All-append_back, slice_get-take}
-use Rattle.ccr_law_core.proofs.Events.{line_stays}
 use Rattle.ccr_law_stores.specs.TrueStores.{IsSound, IsTrueHistory, ShowsLine, CanBeSpelled, IsTrueSession, HasTrueStores}
 use Rattle.ccr_law_stores.proofs.Holding.{in_parts}
 use Rattle.ccr_law_stores.proofs.Histories.{low_some, files-of-primary, history-stays, history-shows}
@@ -112,10 +108,7 @@ pub session-stays : (line later : Line) (session : Session) → ((n : ℕ) (op :
 session-stays line later session numbered same rises ok =
     record { segments = ok.segments; history = history-stays line later session.count (ops_of_session session) numbered same rises ok.history }
 
--- and does so after each entry
-pub session-next : (p : Past) (entry : Entry) (o : Outcome State) (session : Session) → IsCore p → IsTrueSession p.line session → IsTrueSession (past_with p entry o).line session
-session-next p entry o session core ok =
-    session-stays p.line (past_with p entry o).line session core.rest.primary.numbered
-    (front-same p.line.cut (past_with p entry o).line.ops p.line.ops
-    (line_stays p.state.leader p.line (given_after p.state.leader p.given entry.event entry.reply) entry.event entry.reply core.rest.primary.full))
-    (omega arith) ok
+-- and does so for each line of which its own is a front
+pub session-next : (line later : Line) (session : Session) → ((n : ℕ) (op : Operation) → slice_get line.ops n ≡ Some op → op.seq ≡ n) → IsFront line later → IsTrueSession line session → IsTrueSession later session
+session-next line later session numbered front ok =
+    session-stays line later session numbered (front-same line.cut later.ops line.ops front.same) front.cut ok

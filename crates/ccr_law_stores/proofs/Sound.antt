@@ -7,11 +7,11 @@ use Rattle.ccr_model.specs.Copies.{Copy, taking, knowing}
 use Rattle.ccr_model.specs.CopyRows.{merge_bound, after_merge}
 use Rattle.ccr_model.specs.LeaderRows.{filled, end_of, missing_numbers}
 use Rattle.ccr_model.specs.Given.{or_else, gaining, plugged}
-use Rattle.ccr_law_core.proofs.Changes.{gained-some}
-use Rattle.ccr_law_core.proofs.Sets.{has-marked}
+use Rattle.ccr_law_copies.proofs.CopyChanges.{gained-some}
+use Rattle.ccr_law_copies.proofs.Sets.{has-marked}
 use Rattle.ccr_law_stores.specs.TrueStores.{IsTrueStore, IsSorted, IsSound, AreNumbered}
 use Rattle.ccr_law_stores.proofs.Merging.{copy-merges}
-use Rattle.ccr_law_stores.proofs.Changes.{numbered-gaining, copy-takes_found, copy-flushes, copy-knows, copy-plugged, gap_op}
+use Rattle.ccr_law_stores.proofs.StoreChanges.{numbered-gaining, copy-takes_found, copy-flushes, copy-knows, copy-plugged, gap_op}
 use Rattle.ccr_law_stores.proofs.Sorting.{sorted-taking, sorted-flushed, sorted-merged}
 
 pub sound-takes_found : (ops : ℕ → Option Operation) (restored : ℕ) (c : Copy) (seq : ℕ) (op : Operation) (o : Option Operation) → AreNumbered ops → op.seq ≡ seq

@@ -1,1 +1,4 @@
 pub mod TrueStores
+pub mod Spelled
+pub mod Searchable
+pub mod SearchPlaces

@@ -35,8 +35,8 @@ IsLeast ops there id n = (op : Operation) → ops op.seq ≡ Some op → there o
 
 -- why an operation of this number and kind isn't needed, where the numbers that are held pass the test `there`
 abbrev pub IsNotMissed : (ℕ → Option Operation) → (ℕ → Bool) → ℕ → ℕ → Kind → Type 0
-IsNotMissed ops there count n (Index id body) = Passed ops count id n
-IsNotMissed ops there count n (Delete id) = Passed ops count id n ⊎ IsLeast ops there id n
+IsNotMissed ops there count n (Index id routing body) = Passed ops count id n
+IsNotMissed ops there count n (Delete id routing) = Passed ops count id n ⊎ IsLeast ops there id n
 IsNotMissed ops there count n NoOp = Unit {0}
 
 -- 1 where the test holds
@@ -90,14 +90,23 @@ pub record AreTrueStores (given : ℕ → ℕ → Option Operation) (primary : C
 abbrev pub AreTrueStoresOf : (ℕ → ℕ → Option Operation) → Copies → Type 0
 AreTrueStoresOf given s = AreTrueStores given s.primary s.replicas
 
--- what each of the leader's copies holds serves for what it was given
-abbrev pub HasTrueStores : Past → Type 0
-HasTrueStores p = AreTrueStoresOf p.given p.state.leader.copies
+abbrev pub HasLivingStores : Past → Type 0
+HasLivingStores p = AreTrueStoresOf p.given p.state.leader.copies
+
+abbrev pub AreSoundStale : (ℕ → ℕ → Option Operation) → List Copy → Type 0
+AreSoundStale given stale = AllByRecursion (λ (c : Copy). IsSound (given c.number) 0 c) stale
+
+-- what each of the leader's copies holds serves for what it was given, and so does what a stale copy holds
+pub record HasTrueStores (p : Past) : Type 0 where
+  pub own : IsSound (p.given p.state.leader.copies.primary.number) 0 p.state.leader.copies.primary
+  pub others : AllByRecursion (λ (r : Replica). IsSound (p.given r.copy.number) 0 r.copy) p.state.leader.copies.replicas
+  pub stale : AreSoundStale p.given p.state.leader.stale
 
 -- in the words of the theorem
 pub record HoldEnough (p : Past) : Type 0 where
   pub primary : HoldsEnough (p.given p.state.leader.copies.primary.number) 0 p.state.leader.copies.primary
   pub replicas : AllByRecursion (λ (r : Replica). HoldsEnough (p.given r.copy.number) 0 r.copy) p.state.leader.copies.replicas
+  pub stale : AllByRecursion (λ (c : Copy). HoldsEnough (p.given c.number) 0 c) p.state.leader.stale
 
 -- ---- sessions and reads
 

@@ -1,8 +1,14 @@
-//! What the copies of a leader hold, at every place of a legal journal, and laws of what one copy holds, whether a
-//! leader's or a follower's. No code of this crate does anything; the claims stand in `specs/`, their proofs in
-//! `proofs/`.
+//! What copies hold, whether a leader's or a follower's: what they hold serves for what they were given, its operations
+//! can be spelled in bytes, and searches show it.
+//!
+//! No code of this crate does anything: its functions are the places where the theorems are named. The claims stand in
+//! `specs/`, their proofs in `proofs/`.
 #![tactic(auto)]
 
-mod law;
+mod holdings;
+mod searches;
+mod spellings;
 
-pub use law::{copy_changes, leader_stores, reads, session_files};
+pub use holdings::{copy_changes, leader_stores, leased_stays, longest_cut, reads, session_files};
+pub use searches::searches_answer;
+pub use spellings::{source_texts, spelled_operations};

@@ -57,7 +57,7 @@ reads-answered most begun_at next_request next r rest reads at is_on_way good al
     let left : rest < r.to = ltb-true _ _ is in
     record {
       all = all-placed-changed (IsGoodRead most begun_at next_request next) r f reads at
-          (record { drawn = good.drawn; begins = omega arith; ordered = omega arith; below = good.below; enough = omega arith; asked = omega arith }) all;
+          (record { drawn = good.drawn; begins = omega arith; ordered = omega arith; below = good.below; enough = omega arith; asked = omega arith; exact = λ held. omega arith }) all;
       apart = λ k. let same = count-placed-changed (λ r. r.request == k) r reads f at in omega arith;
       few = let same : length (changed_read r.request f reads) ≡ length reads = length-changed r.request f reads in omega arith;
       numbers = λ n.
@@ -199,7 +199,7 @@ reply-sound line begun_at written t r request from global ops true_reply s =
         all = All-weaker (IsGoodRead most begun_at t.next_request t.next) (IsGoodRead most begun_at t.next_request after)
             (λ own good.
             let below : own.to ≤ t.next = good.below in
-            record { drawn = good.drawn; begins = good.begins; ordered = good.ordered; below = omega arith; enough = good.enough; asked = good.asked })
+            record { drawn = good.drawn; begins = good.begins; ordered = good.ordered; below = omega arith; enough = good.enough; asked = good.asked; exact = good.exact })
             (reads_after r ops t.reads) answered.all;
         apart = λ k.
             let less : count_by {X = Read} (λ r. r.request == k) (reads_after r ops t.reads) ≤ count_by {X = Read} (λ r. r.request == k) t.reads = answered.apart k in

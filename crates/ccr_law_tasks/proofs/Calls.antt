@@ -9,7 +9,7 @@ use Rattle.ccr_journal.specs.declared.params.ParamValues.{ParamValues}
 use Rattle.ccr_journal.specs.declared.sides.Phase.{Phase}
 use Rattle.ccr_journal.specs.declared.sides.Phase.TheVariants as phases
 use Rattle.ccr_model.specs.Requests.{Sending, Progress, on_its_way, is_sent, is_due, quiet}
-use Rattle.ccr_model.specs.Tasks.{Task, Read, Write, is_active, bytes_of, may_read, has_budget, is_held, changed_read, changed_write, without_write, all_sent_again, filled_if_active, started, stopped, after_reply, in_order_of_request, read_lost, write_lost, waits_after, write_sent, write_ended, due_reads_sent, due_writes_sent, ticked}
+use Rattle.ccr_model.specs.Tasks.{Task, Read, Write, is_active, bytes_of, may_read, has_budget, is_held, changed_read, changed_write, without_write, all_sent_again, filled_if_active, started, stopped, never_started, after_reply, in_order_of_request, read_lost, write_lost, waits_after, write_sent, write_ended, due_reads_sent, due_writes_sent, ticked}
 use Rattle.ccr_model.specs.Past.{Line, WrittenBatch}
 use Rattle.ccr_model.specs.FrameFacts.{IsCommitted}
 use Rattle.ccr_model.specs.TaskFacts.{IsSaturated, IsBoundedBatch, times_at, times_in, batches_of, written_in, is_in_read}
@@ -106,7 +106,7 @@ read_lost-sound line begun_at written t now r s =
       begun = s.begun;
       reads = record {
         all = All-changed_read (IsGoodRead most begun_at t.next_request t.next) r.request f
-            (λ own good. record { drawn = good.drawn; begins = good.begins; ordered = good.ordered; below = good.below; enough = good.enough; asked = good.asked }) t.reads s.reads.all;
+            (λ own good. record { drawn = good.drawn; begins = good.begins; ordered = good.ordered; below = good.below; enough = good.enough; asked = good.asked; exact = λ held. absurd (cc) }) t.reads s.reads.all;
         apart = λ k.
             let same : count_by {X = Read} (λ r. r.request == k) (changed_read r.request f t.reads) ≡ count_by {X = Read} (λ r. r.request == k) t.reads = count-changed-same (λ r. r.request == k) r.request f (λ own. refl) t.reads in
             let most : count_by {X = Read} (λ r. r.request == k) t.reads ≤ 1 = s.reads.apart k in
@@ -325,6 +325,23 @@ stopped-good line begun_at written t phase isnt good = record {
 }
 
 -- a task takes a phase that isn't active
+pub never-good : (line : Line) (params : ParamValues) (history follower : List ℕ) (request : ℕ) (phase : Phase) (begun_at : ℕ) (written : List WrittenBatch) → is_active phase ≡ false
+    → begun_at ≡ 0 → AreInRange params → IsGoodTask line (never_started params history follower request phase) begun_at written
+never-good line params history follower request phase begun_at written isnt zero in_range = record {
+  sound = record {
+    params = in_range;
+    begun = omega arith;
+    reads = record { all = tt; apart = λ k. omega arith; few = omega arith };
+    writes = record { drawn = tt; apart = λ k. omega arith; few = omega arith; batches = tt };
+    places = λ active. absurd (both_ways (is_active phase) isnt active);
+    room = omega arith;
+    space = omega arith;
+    buffer = tt;
+    batches = tt;
+  };
+  saturated = λ active. absurd (both_ways (is_active phase) isnt active);
+}
+
 pub rested-good : (line : Line) (begun_at : ℕ) (written : List WrittenBatch) (t : Task) (phase : Phase) → is_active phase ≡ false
     → IsGoodTask line t begun_at written → IsGoodTask line (record t { phase = phase }) begun_at written
 rested-good line begun_at written t phase isnt good = record {
@@ -369,7 +386,7 @@ drawn-good line begun_at written t good = record {
     begun = good.sound.begun;
     reads = record {
       all = All-weaker (IsGoodRead t.params.max_read_request_operation_count begun_at t.next_request t.next) (IsGoodRead t.params.max_read_request_operation_count begun_at (t.next_request + 1) t.next)
-          (λ own r. record { drawn = (let low : own.request < t.next_request = r.drawn in omega arith); begins = r.begins; ordered = r.ordered; below = r.below; enough = r.enough; asked = r.asked })
+          (λ own r. record { drawn = (let low : own.request < t.next_request = r.drawn in omega arith); begins = r.begins; ordered = r.ordered; below = r.below; enough = r.enough; asked = r.asked; exact = r.exact })
           t.reads good.sound.reads.all;
       apart = good.sound.reads.apart;
       few = good.sound.reads.few;

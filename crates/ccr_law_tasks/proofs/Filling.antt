@@ -160,9 +160,9 @@ sent_again-sound line begun_at written t r may s =
       begun = s.begun;
       reads = record {
         all = All-changed_read (IsGoodRead most begun_at (t.next_request + 1) t.next) r.request (renumber t.next_request)
-            (λ own good. record { drawn = omega arith; begins = good.begins; ordered = good.ordered; below = good.below; enough = good.enough; asked = good.asked }) t.reads
+            (λ own good. record { drawn = omega arith; begins = good.begins; ordered = good.ordered; below = good.below; enough = good.enough; asked = good.asked; exact = λ held. absurd (cc) }) t.reads
             (All-weaker (IsGoodRead most begun_at t.next_request t.next) (IsGoodRead most begun_at (t.next_request + 1) t.next)
-            (λ own good. record { drawn = (let low : own.request < t.next_request = good.drawn in omega arith); begins = good.begins; ordered = good.ordered; below = good.below; enough = good.enough; asked = good.asked })
+            (λ own good. record { drawn = (let low : own.request < t.next_request = good.drawn in omega arith); begins = good.begins; ordered = good.ordered; below = good.below; enough = good.enough; asked = good.asked; exact = good.exact })
             t.reads s.reads.all);
         apart = apart-more t (changed_read r.request (renumber t.next_request) t.reads) most begun_at s.reads.all s.reads.apart
             (λ k. count-changed-le (λ own. own.request == k) r.request (one_if (t.next_request == k)) (renumber t.next_request) (λ own. omega arith) t.reads);
@@ -268,9 +268,9 @@ with_read-sound line begun_at written t to asked has up enough low s =
             (λ own good.
             let drawn : own.request < t.next_request = good.drawn in
             let below : own.to ≤ t.next = good.below in
-            record { drawn = omega arith; begins = good.begins; ordered = good.ordered; below = omega arith; enough = good.enough; asked = good.asked })
+            record { drawn = omega arith; begins = good.begins; ordered = good.ordered; below = omega arith; enough = good.enough; asked = good.asked; exact = good.exact })
             t.reads s.reads.all)
-            (record { drawn = omega arith; begins = s.begun; ordered = up; below = omega arith; enough = enough; asked = low }, tt);
+            (record { drawn = omega arith; begins = s.begun; ordered = up; below = omega arith; enough = enough; asked = low; exact = λ held. absurd (cc) }, tt);
         apart = apart-more t (t.reads ++ r ∷ []) most begun_at s.reads.all s.reads.apart
             (λ k.
             let all : count_by {X = Read} (λ r. r.request == k) (t.reads ++ r ∷ []) ≡ count_by {X = Read} (λ r. r.request == k) t.reads + count_by {X = Read} (λ r. r.request == k) (r ∷ []) = count-append {X = Read} (λ r. r.request == k) t.reads (r ∷ []) in

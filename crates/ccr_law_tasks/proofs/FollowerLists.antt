@@ -2,14 +2,13 @@
 use Rattle.std.specs.Prelude.{◌==◌, slice_get, slice_set}
 use Rattle.std.proofs.Common.{◌≡◌, ℕ, zero, suc, Bool, true, false, List, [], ◌∷◌, ◌++◌, Option, Some, None, refl, sym, subst}
 use Rattle.std.proofs.lemmas.Bool.{eqb-true}
-use Rattle.ccr_op.specs.Operation.{Operation}
 use Rattle.ccr_journal.specs.declared.events.Event.{Event}
 use Rattle.ccr_journal.specs.declared.replies.Reply.{Reply}
 use Rattle.ccr_model.specs.Followers.{Follower}
 use Rattle.ccr_model.specs.Past.{Line, Past, WrittenBatch, written_after, follower_past_of, sending_place}
 use Rattle.ccr_law_base.proofs.Lists.{push-old, set-other, set-same}
-use Rattle.ccr_law_tasks.specs.GoodFollowers.{IsGoodFollower, AreGoodFollowers}
-use Rattle.ccr_law_tasks.proofs.TaskRows.{begun_after, still}
+use Rattle.ccr_law_tasks.specs.GoodFollowers.{IsUnmade, IsGoodFollower, AreGoodFollowers}
+use Rattle.ccr_law_tasks.proofs.Rows.{begun_after, still}
 
 -- ---- lists
 
@@ -35,16 +34,16 @@ push-none (z ∷ xs) (suc i) y none = push-none xs i y none
 -- ---- followers
 
 -- what holds of all followers after an event with this reply, where these are then the followers
-abbrev pub GoodAfter : Past → Event → List Operation → Line → Reply → List Follower → Type 0
+abbrev pub GoodAfter : Past → Event → (List ℕ → Line) → (List ℕ → Line) → Reply → List Follower → Type 0
 GoodAfter p event ops next reply followers =
     AreGoodFollowers next followers (λ f. follower_past_of f (p.followers f) (sending_place p.sent_at event) event reply ops (slice_get p.state.followers f) (slice_get followers f))
 
 -- what holds of each follower that was there before
-abbrev pub EachKeeps : Past → Event → Line → Reply → List Follower → Type 0
+abbrev pub EachKeeps : Past → Event → (List ℕ → Line) → Reply → List Follower → Type 0
 EachKeeps p event next reply followers = (f : ℕ) (old new : Follower) → slice_get p.state.followers f ≡ Some old → slice_get followers f ≡ Some new
     → IsGoodFollower next (begun_after (p.followers f).begun_at old new) (written_after f old (p.followers f).written event reply) new
 
-by-each : (p : Past) (event : Event) (ops : List Operation) (next : Line) (reply : Reply) (followers : List Follower)
+by-each : (p : Past) (event : Event) (ops : List ℕ → Line) (next : List ℕ → Line) (reply : Reply) (followers : List Follower)
     → AreGoodFollowers next p.state.followers p.followers
     → EachKeeps p event next reply followers
     → ((f : ℕ) (new : Follower) → slice_get p.state.followers f ≡ None → slice_get followers f ≡ Some new → IsGoodFollower next (p.followers f).begun_at (p.followers f).written new)
@@ -62,12 +61,11 @@ by-each p event ops next reply followers now each fresh gone = record {
       subst (λ (new : Option Follower). goal (slice_get p.state.followers f) new) (sym at) (known (slice_get p.state.followers f) refl);
   unmade = λ f none.
       let was : slice_get p.state.followers f ≡ None = gone f none in
-      let old : (p.followers f).written ≡ [] = now.unmade f was in
-      subst (λ (o : Option Follower). (follower_past_of f (p.followers f) (sending_place p.sent_at event) event reply ops o (slice_get followers f)).written ≡ []) (sym was) old;
+      subst (λ (o : Option Follower). IsUnmade (follower_past_of f (p.followers f) (sending_place p.sent_at event) event reply ops o (slice_get followers f))) (sym was) (now.unmade f was);
 }
 
 -- a follower that stays as it is
-unchanged : (p : Past) (event : Event) (next : Line) (reply : Reply) (f : ℕ) (old new : Follower) → old ≡ new
+unchanged : (p : Past) (event : Event) (next : List ℕ → Line) (reply : Reply) (f : ℕ) (old new : Follower) → old ≡ new
     → written_after f old (p.followers f).written event reply ≡ (p.followers f).written
     → IsGoodFollower next (p.followers f).begun_at (p.followers f).written old
     → IsGoodFollower next (begun_after (p.followers f).begun_at old new) (written_after f old (p.followers f).written event reply) new
@@ -77,7 +75,7 @@ unchanged p event next reply f old new same none good =
     (still next (p.followers f).begun_at (p.followers f).written old good) in
     subst (λ (x : Follower). IsGoodFollower next (begun_after (p.followers f).begun_at old x) (written_after f old (p.followers f).written event reply) x) same as_was
 
-pub none-changed : (p : Past) (event : Event) (ops : List Operation) (next : Line) (reply : Reply)
+pub none-changed : (p : Past) (event : Event) (ops : List ℕ → Line) (next : List ℕ → Line) (reply : Reply)
     → ((f : ℕ) (old : Follower) → written_after f old (p.followers f).written event reply ≡ (p.followers f).written)
     → AreGoodFollowers next p.state.followers p.followers → GoodAfter p event ops next reply p.state.followers
 none-changed p event ops next reply none now =
@@ -86,7 +84,7 @@ none-changed p event ops next reply none now =
     (λ f new was is. absurd (cc))
     (λ f gone. gone)
 
-pub one-changed : (p : Past) (event : Event) (ops : List Operation) (next : Line) (reply : Reply) (f : ℕ) (old new : Follower) → slice_get p.state.followers f ≡ Some old
+pub one-changed : (p : Past) (event : Event) (ops : List ℕ → Line) (next : List ℕ → Line) (reply : Reply) (f : ℕ) (old new : Follower) → slice_get p.state.followers f ≡ Some old
     → IsGoodFollower next (begun_after (p.followers f).begun_at old new) (written_after f old (p.followers f).written event reply) new
     → ((k : ℕ) (x : Follower) → (f == k) ≡ false → written_after k x (p.followers k).written event reply ≡ (p.followers k).written)
     → AreGoodFollowers next p.state.followers p.followers → GoodAfter p event ops next reply (slice_set p.state.followers f new)
@@ -125,8 +123,8 @@ one-changed p event ops next reply f old new there good none now =
     ]) refl)
     (λ k gone. set-none p.state.followers f k new gone)
 
-pub one-made : (p : Past) (event : Event) (ops : List Operation) (next : Line) (reply : Reply) (new : Follower)
-    → ((begun_at : ℕ) → IsGoodFollower next begun_at [] new)
+pub one-made : (p : Past) (event : Event) (ops : List ℕ → Line) (next : List ℕ → Line) (reply : Reply) (new : Follower)
+    → IsGoodFollower next 0 [] new
     → ((k : ℕ) (x : Follower) → written_after k x (p.followers k).written event reply ≡ (p.followers k).written)
     → AreGoodFollowers next p.state.followers p.followers → GoodAfter p event ops next reply (p.state.followers ++ new ∷ [])
 one-made p event ops next reply new good none now =
@@ -137,7 +135,8 @@ one-made p event ops next reply new good none now =
     unchanged p event next reply k x y same (none k x) (now.made k x was))
     (λ k y was is.
     let same : y ≡ new = push-new p.state.followers k y new was is in
-    let empty : (p.followers k).written ≡ [] = now.unmade k was in
-    let a : IsGoodFollower next (p.followers k).begun_at (p.followers k).written new = subst (λ (w : List WrittenBatch). IsGoodFollower next (p.followers k).begun_at w new) (sym empty) (good (p.followers k).begun_at) in
+    let unmade : IsUnmade (p.followers k) = now.unmade k was in
+    let a : IsGoodFollower next (p.followers k).begun_at (p.followers k).written new =
+    subst (λ (w : List WrittenBatch). IsGoodFollower next (p.followers k).begun_at w new) (sym unmade.0) (subst (λ (n : ℕ). IsGoodFollower next n [] new) (sym unmade.1) good) in
     subst (λ (z : Follower). IsGoodFollower next (p.followers k).begun_at (p.followers k).written z) (sym same) a)
     (λ k gone. push-none p.state.followers k new gone)

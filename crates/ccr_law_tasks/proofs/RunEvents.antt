@@ -1,7 +1,9 @@
 -- Every event keeps that the replies to reads in flight have consecutive numbers.
 use Rattle.std.specs.Prelude.{nat_le, not, slice_get, remove}
-use Rattle.std.proofs.Common.{ℕ, suc, Bool, List, [], ◌∷◌, length, take, drop, Option, Some, None}
+use Rattle.std.proofs.Common.{ℕ, suc, Bool, List, [], ◌∷◌, ◌++◌, length, take, drop, Option, Some, None}
 use Rattle.ccr_wire.specs.Message.{Frame, kind_of_content}
+use Rattle.ccr_wire.specs.declared.content.Content.{Content}
+use Rattle.ccr_wire.specs.declared.content.Content.TheVariants as contents
 use Rattle.ccr_query.specs.Queries.{Tree}
 use Rattle.ccr_query.specs.declared.sorting.SortKey.{SortKey}
 use Rattle.ccr_journal.specs.declared.params.ParamValues.{ParamValues}
@@ -14,8 +16,8 @@ use Rattle.ccr_journal.specs.declared.replies.Refusal.TheVariants.{NoFollower, N
 use Rattle.ccr_model.specs.Outcomes.{Outcome, refused, answered, guarded, within}
 use Rattle.ccr_model.specs.Copies.{Copy, copy_of, replica_of}
 use Rattle.ccr_model.specs.CopyRows.{sync_row}
-use Rattle.ccr_model.specs.Leaders.{Start, Leader, polls_of}
-use Rattle.ccr_model.specs.LeaderRows.{source_fault, leader_fail_copy_row, leader_write, leader_replicate, leader_ack, leader_sync, leader_promote, leader_resync, leader_fail_copy, leader_add_copy, leader_flush, leader_merge, leader_clock, leader_expire, leader_close_sessions, leader_status}
+use Rattle.ccr_model.specs.Leaders.{Start, Leader, polls_of, stale_of}
+use Rattle.ccr_model.specs.LeaderRows.{source_fault, leader_fail_copy_row, leader_write, leader_replicate, leader_ack, leader_sync, leader_promote, leader_force_promote, leader_resync, leader_fail_copy, leader_add_copy, leader_flush, leader_merge, leader_clock, leader_expire, leader_close_sessions, leader_status}
 use Rattle.ccr_model.specs.LeaderFrames.{leader_wake, leader_receive, polled_copy}
 use Rattle.ccr_model.specs.Followers.{Follower, uuid_of, new_follower}
 use Rattle.ccr_model.specs.FollowerRows.{lose_row, tick_row, follower_clock_row, sent_write, lose_write_row, take_row, apply_row, written_row, task_of, renew_row, pause_row, resume_row, restart_row, unfollow_row, follower_add_copy_row, follower_replicate, follower_ack, follower_sync, follower_promote, follower_fail_copy, follower_flush, follower_merge, follower_status_row, follower_receive_row}
@@ -27,10 +29,10 @@ use Rattle.ccr_law_base.proofs.Cases.{on_if, on_guards}
 use Rattle.ccr_model.specs.Operations.{live}
 use Rattle.ccr_model.specs.Stores.{held}
 use Rattle.ccr_law_base.specs.Events.{past_by}
-use Rattle.ccr_law_base.proofs.Lists.{All-take, All-drop}
+use Rattle.ccr_law_base.proofs.Lists.{All-append, All-take, All-drop, All-weaker}
 use Rattle.ccr_law_tasks.specs.GoodFollowers.{IsRunOf, BringRuns}
-use Rattle.ccr_law_tasks.proofs.Sending.{AreRuns, wake-sends, leader-receives, settling-sends, write-sends, replicate-sends, ack-sends, sync-sends, fail_copy-sends, add_copy-sends, flush-sends, merge-sends, follower_promote-sends, resync-sends, leader_promote-sends, leader_fail_copy-sends, clock-sends, expire-sends, close-sends, leader_status-sends}
-use Rattle.ccr_law_tasks.proofs.FollowerSending.{receive-sends, lose-sends, tick-sends, follower_clock-sends, lose_write-sends, take-sends, apply-sends, written-sends, renew-sends, pause-sends, resume-sends, restart-sends, unfollow-sends, follower_add_copy-sends, follower_status-sends, joined}
+use Rattle.ccr_law_tasks.proofs.Sending.{AreRuns, ArePlain, none-run, received-run, woken-run, settling-sends, write-sends, replicate-sends, ack-sends, sync-sends, fail_copy-sends, add_copy-sends, flush-sends, merge-sends, follower_promote-sends, resync-sends, leader_promote-sends, force_promote-sends, leader_fail_copy-sends, clock-sends, expire-sends, close-sends, leader_status-sends}
+use Rattle.ccr_law_tasks.proofs.FollowerSending.{IsNoReply, BringNoReply, plain-replies, receive-sends, lose-sends, tick-sends, follower_clock-sends, lose_write-sends, take-sends, apply-sends, written-sends, renew-sends, pause-sends, resume-sends, restart-sends, unfollow-sends, follower_add_copy-sends, follower_status-sends}
 
 -- the messages in flight after an outcome
 abbrev RunsAt : Outcome State → Type 0
@@ -39,20 +41,30 @@ RunsAt o = AreRuns o.next.flight
 abbrev flying : State → List Frame → State
 flying s flight = record s { flight = flight }
 
+runs-joined : (xs ys : List Frame) → AreRuns xs → AreRuns ys → AreRuns (xs ++ ys)
+runs-joined xs ys a b = All-append (λ (m : Frame). IsRunOf m.content) xs ys a b
+
 removed : (flight : List Frame) (at : ℕ) → AreRuns flight → AreRuns (remove flight at)
-removed flight at runs = joined (take at flight) (drop (suc at) flight) (All-take (λ (m : Frame). IsRunOf m.content) at flight runs) (All-drop (λ (m : Frame). IsRunOf m.content) (suc at) flight runs)
+removed flight at runs = runs-joined (take at flight) (drop (suc at) flight) (All-take (λ (m : Frame). IsRunOf m.content) at flight runs) (All-drop (λ (m : Frame). IsRunOf m.content) (suc at) flight runs)
 
-by-leader : (s : State) (o : Outcome Leader) → AreRuns s.flight → AreRuns o.sent → RunsAt (at_leader s o)
-by-leader s o runs sends = joined s.flight o.sent runs sends
+replies-run : (sent : List Frame) → BringNoReply sent → AreRuns sent
+replies-run sent none = All-weaker (λ (m : Frame). IsNoReply m.content) (λ (m : Frame). IsRunOf m.content) (λ m is. run m.content is) sent none
+  where
+    run : (content : Content) → IsNoReply content → IsRunOf content
+    run (contents.ReadReply from global ops) none = absurd none
+    run _ none = tt
 
-by-follower : (s : State) (f : ℕ) (row : Follower → Outcome Follower) → AreRuns s.flight → ((x : Follower) → AreRuns (row x).sent) → (found : Option Follower) → RunsAt (for_follower s f row found)
+by-leader : (s : State) (o : Outcome Leader) → AreRuns s.flight → ArePlain o.sent → RunsAt (at_leader s o)
+by-leader s o runs sends = runs-joined s.flight o.sent runs (none-run o.sent sends)
+
+by-follower : (s : State) (f : ℕ) (row : Follower → Outcome Follower) → AreRuns s.flight → ((x : Follower) → BringNoReply (row x).sent) → (found : Option Follower) → RunsAt (for_follower s f row found)
 by-follower s f row runs sends None = runs
-by-follower s f row runs sends (Some x) = joined s.flight (row x).sent runs (sends x)
+by-follower s f row runs sends (Some x) = runs-joined s.flight (row x).sent runs (replies-run (row x).sent (sends x))
 
 by-receiver : (s : State) (copy : ℕ) (m : Frame) → AreRuns s.flight → RunsAt (taken_by_receiver s copy m)
 by-receiver s copy m runs =
     on_if (λ (o : Outcome State). RunsAt o) (goes_to_leader (kind_of_content m.content)) (at_leader s (leader_receive s.leader copy m)) (at_named_follower s m (follower_of s.followers m.follower))
-    (λ is. by-leader s (leader_receive s.leader copy m) runs (leader-receives s.leader copy m))
+    (λ is. runs-joined s.flight (leader_receive s.leader copy m).sent runs (received-run s.leader copy m))
     (λ isnt. elim (follower_of s.followers m.follower) as (λ (found : Option ℕ). RunsAt (at_named_follower s m found)) [
       | None ↦ runs
       | Some f ↦ by-follower s f (λ follower. follower_receive_row follower m) runs (λ x. receive-sends x m) (slice_get s.followers f)
@@ -75,7 +87,7 @@ by-wake : (s : State) (f at : ℕ) (found : Option Follower) → AreRuns s.fligh
 by-wake s f at None runs = runs
 by-wake s f at (Some follower) runs =
     let poll = slice_get (polls_of s.leader.polls (uuid_of f)) at in
-    by-leader s (leader_wake s.leader (uuid_of f) at) runs (wake-sends s.leader (uuid_of f) at poll (polled_copy s.leader.copies poll))
+    runs-joined s.flight (leader_wake s.leader (uuid_of f) at).sent runs (woken-run s.leader (uuid_of f) at poll (polled_copy s.leader.copies poll))
 
 by-search : (s : State) (copy : ℕ) (query : Tree) (sort : List SortKey) (found : Option Copy) → AreRuns s.flight → RunsAt (search_row s copy query sort found)
 unfolding search_row
@@ -102,28 +114,29 @@ by-follow s params copies name (Some f) runs = runs
 by-follow s params copies name None runs =
     on_guards (λ (o : Outcome State). RunsAt o) s ((nat_le most_followers (length s.followers), TooMany) ∷ []) (with_new_follower s params copies name)
     (λ why. runs)
-    (λ few. joined s.flight (new_follower (length s.followers) params copies name s.leader.start.retention).sent runs (tt, tt))
+    (λ few. runs-joined s.flight (new_follower (length s.followers) params copies name s.leader.history s.leader.start.retention).sent runs (tt, tt))
 
 pub each-run : (s : State) (event : Event) (picks : List ℕ) → AreRuns s.flight → RunsAt (step s event picks)
 each-run s (events.Write request) picks runs =
     by-leader s (leader_write s.leader request) runs (write-sends s.leader.copies request (source_fault request.body) (live (held s.leader.copies.primary.store) request.id))
 each-run s (events.Replicate sides.Leader copy seq) picks runs = by-leader s (leader_replicate s.leader copy seq) runs (replicate-sends s.leader.copies copy seq (replica_of s.leader.copies copy))
-each-run s (events.Replicate (sides.Follower f) copy seq) picks runs = by-follower s f (λ x. follower_replicate x copy seq) runs (λ x. replicate-sends x.copies copy seq (replica_of x.copies copy)) (slice_get s.followers f)
+each-run s (events.Replicate (sides.Follower f) copy seq) picks runs = by-follower s f (λ x. follower_replicate x copy seq) runs (λ x. plain-replies _ (replicate-sends x.copies copy seq (replica_of x.copies copy))) (slice_get s.followers f)
 each-run s (events.Ack sides.Leader copy) picks runs = by-leader s (leader_ack s.leader copy) runs (ack-sends s.leader.copies copy (replica_of s.leader.copies copy))
-each-run s (events.Ack (sides.Follower f) copy) picks runs = by-follower s f (λ x. follower_ack x copy) runs (λ x. ack-sends x.copies copy (replica_of x.copies copy)) (slice_get s.followers f)
+each-run s (events.Ack (sides.Follower f) copy) picks runs = by-follower s f (λ x. follower_ack x copy) runs (λ x. plain-replies _ (ack-sends x.copies copy (replica_of x.copies copy))) (slice_get s.followers f)
 each-run s (events.Sync sides.Leader copy) picks runs = by-leader s (leader_sync s.leader copy) runs (settling-sends (within (λ copies. record s.leader { copies = copies }) (sync_row s.leader.copies copy (replica_of s.leader.copies copy))) (sync-sends s.leader.copies copy (replica_of s.leader.copies copy)))
-each-run s (events.Sync (sides.Follower f) copy) picks runs = by-follower s f (λ x. follower_sync x copy) runs (λ x. sync-sends x.copies copy (replica_of x.copies copy)) (slice_get s.followers f)
+each-run s (events.Sync (sides.Follower f) copy) picks runs = by-follower s f (λ x. follower_sync x copy) runs (λ x. plain-replies _ (sync-sends x.copies copy (replica_of x.copies copy))) (slice_get s.followers f)
 each-run s (events.Promote sides.Leader copy) picks runs = by-leader s (leader_promote s.leader copy) runs (leader_promote-sends s.leader copy (replica_of s.leader.copies copy))
-each-run s (events.Promote (sides.Follower f) copy) picks runs = by-follower s f (λ x. follower_promote x copy) runs (λ x. follower_promote-sends x.copies copy (replica_of x.copies copy)) (slice_get s.followers f)
+each-run s (events.Promote (sides.Follower f) copy) picks runs = by-follower s f (λ x. follower_promote x copy) runs (λ x. plain-replies _ (follower_promote-sends x.copies copy (replica_of x.copies copy))) (slice_get s.followers f)
+each-run s (events.ForcePromote copy) picks runs = by-leader s (leader_force_promote s.leader copy) runs (force_promote-sends s.leader copy (stale_of s.leader.stale copy))
 each-run s (events.Resync copy) picks runs = by-leader s (leader_resync s.leader copy) runs (resync-sends s.leader.copies copy (replica_of s.leader.copies copy))
 each-run s (events.FailCopy sides.Leader copy) picks runs = by-leader s (leader_fail_copy s.leader copy) runs (settling-sends (leader_fail_copy_row s.leader copy (replica_of s.leader.copies copy)) (leader_fail_copy-sends s.leader copy (replica_of s.leader.copies copy)))
-each-run s (events.FailCopy (sides.Follower f) copy) picks runs = by-follower s f (λ x. follower_fail_copy x copy) runs (λ x. fail_copy-sends x.copies copy (replica_of x.copies copy)) (slice_get s.followers f)
+each-run s (events.FailCopy (sides.Follower f) copy) picks runs = by-follower s f (λ x. follower_fail_copy x copy) runs (λ x. plain-replies _ (fail_copy-sends x.copies copy (replica_of x.copies copy))) (slice_get s.followers f)
 each-run s (events.AddCopy sides.Leader) picks runs = by-leader s (leader_add_copy s.leader) runs (add_copy-sends s.leader.copies)
 each-run s (events.AddCopy (sides.Follower f)) picks runs = by-follower s f follower_add_copy_row runs (λ x. follower_add_copy-sends x) (slice_get s.followers f)
 each-run s (events.Flush sides.Leader copy) picks runs = by-leader s (leader_flush s.leader copy) runs (flush-sends s.leader.copies copy (copy_of s.leader.copies copy))
-each-run s (events.Flush (sides.Follower f) copy) picks runs = by-follower s f (λ x. follower_flush x copy) runs (λ x. flush-sends x.copies copy (copy_of x.copies copy)) (slice_get s.followers f)
+each-run s (events.Flush (sides.Follower f) copy) picks runs = by-follower s f (λ x. follower_flush x copy) runs (λ x. plain-replies _ (flush-sends x.copies copy (copy_of x.copies copy))) (slice_get s.followers f)
 each-run s (events.Merge sides.Leader copy) picks runs = by-leader s (leader_merge s.leader copy picks) runs (merge-sends s.leader.copies s.leader.start.retention copy picks (copy_of s.leader.copies copy))
-each-run s (events.Merge (sides.Follower f) copy) picks runs = by-follower s f (λ x. follower_merge x copy picks) runs (λ x. merge-sends x.copies x.retention copy picks (copy_of x.copies copy)) (slice_get s.followers f)
+each-run s (events.Merge (sides.Follower f) copy) picks runs = by-follower s f (λ x. follower_merge x copy picks) runs (λ x. plain-replies _ (merge-sends x.copies x.retention copy picks (copy_of x.copies copy))) (slice_get s.followers f)
 each-run s (events.Clock sides.Leader time) picks runs = by-leader s (leader_clock s.leader time) runs (clock-sends s.leader time)
 each-run s (events.Clock (sides.Follower f) time) picks runs = by-follower s f (λ x. follower_clock_row x time) runs (λ x. follower_clock-sends x time) (slice_get s.followers f)
 each-run s events.Expire picks runs = by-leader s (leader_expire s.leader) runs (expire-sends s.leader)

@@ -6,14 +6,14 @@ use Rattle.ccr_journal.specs.Params.{AreInRange}
 use Rattle.ccr_model.specs.Operations.{size_of}
 use Rattle.ccr_model.specs.Requests.{is_sent}
 use Rattle.ccr_model.specs.Copies.{greatest}
-use Rattle.ccr_model.specs.Tasks.{Task, Read, Write, is_active, bytes_of, read_sent}
+use Rattle.ccr_model.specs.Tasks.{Task, Read, Write, is_active, bytes_of, read_sent, is_held}
 use Rattle.ccr_model.specs.Past.{Line, WrittenBatch, committed}
 use Rattle.ccr_model.specs.FrameFacts.{IsCommitted, BringsAsAsked}
 use Rattle.ccr_wire.specs.Message.{IsRun}
 use Rattle.ccr_model.specs.TaskFacts.{StandsOnce, IsSaturated, IsBoundedBatch, batches_of}
 
 -- a read is for numbers from where the epoch began to below the least number that was never asked for; it asks for all of these, and for at
--- most so many
+-- most so many; one that is held for what is left asks for no more than that
 pub record IsGoodRead (most begun_at next_request next : ℕ) (r : Read) : Type 0 where
   pub drawn : r.request < next_request
   pub begins : begun_at ≤ r.from
@@ -21,6 +21,7 @@ pub record IsGoodRead (most begun_at next_request next : ℕ) (r : Read) : Type 
   pub below : r.to ≤ next
   pub enough : r.to ≤ r.from + r.asked
   pub asked : r.asked ≤ most
+  pub exact : is_held r ≡ true → r.from + r.asked ≤ r.to
 
 -- no two reads have one request number
 pub record AreGoodReads (most most_reads begun_at next_request next : ℕ) (reads : List Read) : Type 0 where

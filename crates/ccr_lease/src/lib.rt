@@ -15,10 +15,11 @@ mod tests {
     use ccr_op::LeaseId;
     use std::alloc::{AllocError, Global};
     use std::process::Abort;
+    use std::sync::ArcStr;
     use std::test::Fail;
 
     fn id(rt: &(impl Alloc<A = Global> + Abort), text: &str) -> Result<LeaseId, AllocError> {
-        let text = String::from_str(rt.alloc(), text)?;
+        let text = ArcStr::from_str(rt.alloc(), text)?;
         Ok(LeaseId::new(text).expect(rt, "an id"))
     }
 

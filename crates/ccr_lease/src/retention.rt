@@ -47,3 +47,17 @@ pub struct Expired {
     /// The reading of the clock at which it was dropped, in milliseconds.
     pub now: Millis,
 }
+
+impl Expired {
+    /// An equal one.
+    pub fn copy(&self, alloc: Global) -> Result<Expired, AllocError>
+        ensures { IfOk result (λ other. other ≡ self.entry.now) }
+    {
+        let id = self.id.copy(alloc)?;
+        Ok(Expired {
+            id,
+            stamp: self.stamp,
+            now: self.now,
+        })
+    }
+}

@@ -1,5 +1,5 @@
 -- What a search of one copy has to answer, over a set of operations.
-use Rattle.std.specs.Prelude.{◌≡◌, ◌⊎◌, ◌↔◌, ℕ, ◌≤◌, ◌<◌, true, List, [], ◌∷◌, Some, IsTrue}
+use Rattle.std.specs.Prelude.{◌≡◌, ◌⊎◌, ◌↔◌, ℕ, ◌≤◌, ◌<◌, true, List, [], ◌∷◌, Option, Some, IsTrue}
 use Rattle.std.specs.List.{AllByRecursion}
 use Rattle.std.specs.declared.cmp.Ordering.TheVariants.{Less}
 use Rattle.ccr_op.specs.Operation.{Operation, id_of}
@@ -33,16 +33,16 @@ HasAbove S count = (op : Operation) × S op × (count < op.seq)
 abbrev pub HasExactlyBelow : (Operation → Type 0) → ℕ → Type 0
 HasExactlyBelow S count = (n : ℕ) → HasNumber S n ↔ (n < count)
 
--- of the operations of a set about this id, the one of greatest number puts this source in place
-pub record IsLive (S : Operation → Type 0) (id body : List ℕ) : Type 0 where
+-- of the operations of a set about this id, the one of greatest number puts this source in place, with this routing
+pub record IsLive (S : Operation → Type 0) (id : List ℕ) (routing : Option (List ℕ)) (body : List ℕ) : Type 0 where
   pub op : Operation
   pub is_in : S op
-  pub puts : op.kind ≡ Index id body
+  pub puts : op.kind ≡ Index id routing body
   pub greatest : (other : Operation) → S other → id_of other.kind ≡ Some id → other.seq ≤ op.seq
 
 -- two sets show the same documents
 abbrev pub SameView : (Operation → Type 0) → (Operation → Type 0) → Type 0
-SameView S T = (id body : List ℕ) → IsLive S id body ↔ IsLive T id body
+SameView S T = (id : List ℕ) (routing : Option (List ℕ)) (body : List ℕ) → IsLive S id routing body ↔ IsLive T id routing body
 
 -- the hits stand in the order of the keys and then of the ids, and none twice
 abbrev pub AreInOrder : List SortKey → List Hit → Type 0
@@ -52,7 +52,7 @@ AreInOrder keys (hit ∷ hits) =
 
 -- the document is live in a set, and the query holds on it
 pub record IsHit (S : Operation → Type 0) (query : Tree) (hit : Hit) : Type 0 where
-  pub live : IsLive S hit.id hit.body
+  pub live : IsLive S hit.id hit.routing hit.body
   pub holds : holds query (fields_of_hit hit) ≡ true
 
 -- what a search answers over a set of operations

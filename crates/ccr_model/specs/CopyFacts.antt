@@ -1,5 +1,5 @@
 -- What holds of the copies of a shard at every place of a legal journal.
-use Rattle.std.specs.Prelude.{◌≡◌, ◌⊎◌, ℕ, ◌≤◌, ◌<◌, Bool, true, nat_lt, max, List, length, Option, Some, None, is_some, slice_get}
+use Rattle.std.specs.Prelude.{◌≡◌, ◌⊎◌, ℕ, ◌+◌, ◌≤◌, ◌<◌, Bool, true, nat_lt, max, List, [], ◌∷◌, length, Option, Some, None, is_some, slice_get}
 use Rattle.std.specs.List.{AllByRecursion}
 use Rattle.ccr_op.specs.Operation.{Operation}
 use Rattle.ccr_tracker.specs.Numbers.{has}
@@ -13,7 +13,17 @@ use Rattle.ccr_model.specs.Answers.{IsIn, SameView}
 use Rattle.ccr_model.specs.LeaseHistory.{LeaseNote, retained, is_unbroken}
 use Rattle.ccr_model.specs.Past.{Line}
 
--- ---- the leader's copies and the line
+-- ---- the order of the copies
+
+-- the replicas stand in ascending number, from this one on and below the next copy's
+abbrev pub AscendBelow : ℕ → ℕ → List Replica → Type 0
+AscendBelow next low [] = low ≤ next
+AscendBelow next low (r ∷ rs) = (low ≤ r.copy.number) × AscendBelow next (r.copy.number + 1) rs
+
+abbrev pub Ascend : Copies → Type 0
+Ascend s = AscendBelow s.next 0 s.replicas
+
+-- ---- the leader's copies and the line of its history
 
 -- the primary has processed exactly the operations of the line, and no more is committed than the line has
 pub record IsLinePrimary (line : Line) (ops : ℕ → Option Operation) (c : Copy) : Type 0 where

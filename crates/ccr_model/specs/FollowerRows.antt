@@ -7,7 +7,7 @@ use Rattle.ccr_tracker.specs.Numbers.{Numbers, has, marked}
 use Rattle.ccr_wire.specs.Message.{Frame}
 use Rattle.ccr_wire.specs.declared.content.Content.{Content}
 use Rattle.ccr_wire.specs.declared.content.Content.TheVariants as contents
-use Rattle.ccr_journal.specs.Sameness.{same_operations}
+use Rattle.ccr_op.specs.Sameness.{same_operations}
 use Rattle.ccr_journal.specs.declared.sides.Phase.{Phase}
 use Rattle.ccr_journal.specs.declared.sides.Phase.TheVariants as phases
 use Rattle.ccr_journal.specs.declared.replies.Reply.{Reply}
@@ -18,8 +18,8 @@ use Rattle.ccr_model.specs.Outcomes.{Outcome, refused, answered, guarded, within
 use Rattle.ccr_model.specs.Copies.{Copy, Copies, replica_of, copy_of, counted, taking, all_copies, statuses_of}
 use Rattle.ccr_model.specs.CopyRows.{replicate_row, ack_row, sync_row, fail_copy_row, add_copy_row, flush_row, merge_row, follower_promote_row}
 use Rattle.ccr_model.specs.Requests.{Sending}
-use Rattle.ccr_model.specs.Tasks.{Task, Read, Write, is_active, started, stopped, filled_if_active, read_sent, after_reply, sent_reads, read_lost, write_sent, write_lost, write_ended, ticked, least_from}
-use Rattle.ccr_model.specs.Restores.{Restore, leasing, opening, fetching, is_complete, restore_hears, restore_lost, restore_ticked, sent_requests}
+use Rattle.ccr_model.specs.Tasks.{Task, Read, Write, is_active, started, never_started, stopped, filled_if_active, read_sent, after_reply, sent_reads, read_lost, write_sent, write_lost, write_ended, ticked, least_from}
+use Rattle.ccr_model.specs.Restores.{Restore, leasing, opening, fetching, is_complete, ends_restore, restore_hears, restore_lost, restore_ticked, sent_requests}
 use Rattle.ccr_model.specs.Followers.{Follower, Work, restoring, replicating, phase_of_work, bootstrapped}
 
 abbrev pub with_copies : Follower → Copies → Follower
@@ -75,9 +75,14 @@ abbrev pub task_heard : Follower → Task → Content → Option Read → Outcom
 task_heard s t content None = ignored s
 task_heard s t content (Some r) = hear_read s t r content
 
+-- the leader has another history than the one that the bootstrap began with: the follower stops before its task ever started
+abbrev pub restore_ended : Follower → Restore → Outcome Follower
+restore_ended s r =
+    answered (replies.Heard heard.StoppedHistory) (record s { work = replicating (never_started s.params r.history r.follower r.next_request phases.History) })
+
 abbrev pub work_hears : Follower → Frame → Outcome Follower
 work_hears s m = elim s.work as (λ _. Outcome Follower) [
-  | restoring r ↦ restore_heard s (restore_hears r s.now m)
+  | restoring r ↦ if ends_restore r m then restore_ended s r else restore_heard s (restore_hears r s.now m)
   | replicating t ↦ task_heard s t m.content (read_sent t m.request)
 ]
 

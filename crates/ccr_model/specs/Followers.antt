@@ -15,10 +15,11 @@ pub data Work : Type 0 where
   restoring : Restore → Work
   replicating : Task → Work
 
--- its lease id, its parameters and the leader's retention; its clock; its work; the numbers of the renewals and removals that stand; the
--- epoch that is kept, which is 0 in the bootstrap; its copies
+-- its lease id, the history that it follows, its parameters and the leader's retention; its clock; its work; the numbers of the renewals and
+-- removals that stand; the epoch that is kept, which is 0 in the bootstrap; its copies
 pub record Follower : Type 0 where
   pub lease : List ℕ
+  pub history : List ℕ
   pub params : ParamValues
   pub retention : ℕ
   pub now : ℕ
@@ -36,12 +37,13 @@ phase_of_work (restoring s) = phase_of s.stage
 phase_of_work (replicating t) = t.phase
 
 -- a new follower of this number asks for its lease
-abbrev pub new_follower : ℕ → ParamValues → ℕ → List ℕ → ℕ → Sending Follower
-new_follower f params copies lease retention =
-    let begun = restore_started lease (uuid_of f) params.chunk_size params.max_retry_delay in
+abbrev pub new_follower : ℕ → ParamValues → ℕ → List ℕ → List ℕ → ℕ → Sending Follower
+new_follower f params copies lease history retention =
+    let begun = restore_started lease (uuid_of f) history params.chunk_size params.max_retry_delay in
     record {
       next = record {
         lease = lease;
+        history = history;
         params = params;
         retention = retention;
         now = 0;

@@ -1,5 +1,5 @@
 -- What holds of the messages in flight, of the polls and of the sessions at every place of a legal journal.
-use Rattle.std.specs.Prelude.{◌≡◌, ◌⊎◌, ℕ, ◌≤◌, ◌<◌, List, length, take, flat_map, count_by, ◌==◌, slice_get, Option, Some, None, IfSome}
+use Rattle.std.specs.Prelude.{◌≡◌, ◌⊎◌, ℕ, ◌≤◌, ◌<◌, true, List, length, take, flat_map, count_by, ◌==◌, slice_get, Option, Some, None, is_some, IfSome}
 use Rattle.std.specs.Option.{option_map, option_and_then}
 use Rattle.std.specs.List.{AllByRecursion}
 use Rattle.ccr_op.specs.Operation.{Operation}
@@ -13,9 +13,9 @@ use Rattle.ccr_model.specs.Tasks.{Task, Read, read_sent, bytes_of}
 use Rattle.ccr_model.specs.Restores.{Restore, Stage, leasing, opening, fetching, Fetch, ChunkAsked, Chunk, ask_sent}
 use Rattle.ccr_model.specs.Leaders.{Session, KeptRequest, Poll, session_of}
 use Rattle.ccr_model.specs.LeaderFrames.{sizes_of, chunk_of}
-use Rattle.ccr_model.specs.Followers.{Follower, Work, restoring, replicating}
+use Rattle.ccr_model.specs.Followers.{Follower, Work, restoring, replicating, uuid_of}
 use Rattle.ccr_model.specs.World.{State, follower_of}
-use Rattle.ccr_model.specs.Past.{Line, Past}
+use Rattle.ccr_model.specs.Past.{Line, Past, line_of}
 
 -- the operation is the line's of its number, and committed
 pub record IsCommitted (line : Line) (op : Operation) : Type 0 where
@@ -25,6 +25,20 @@ pub record IsCommitted (line : Line) (op : Operation) : Type 0 where
 -- the follower whose UUID this is
 abbrev pub named_follower : List Follower → List ℕ → Option Follower
 named_follower followers uuid = option_and_then (slice_get followers) (follower_of followers uuid)
+
+-- the UUID is that of a follower that was made
+abbrev pub IsNamed : State → List ℕ → Type 0
+IsNamed s uuid = is_some (named_follower s.followers uuid) ≡ true
+
+-- the UUID under which a work sends
+abbrev pub uuid_of_work : Work → List ℕ
+uuid_of_work (restoring r) = r.follower
+uuid_of_work (replicating t) = t.follower
+
+-- a follower's UUID names it alone, and its work sends under it
+pub record IsNamedAlone (s : State) (f : ℕ) (own : Follower) : Type 0 where
+  pub alone : follower_of s.followers (uuid_of f) ≡ Some f
+  pub work : uuid_of_work own.work ≡ uuid_of f
 
 -- ---- request numbers
 
@@ -64,6 +78,19 @@ pub record BringsAsAsked (from : ℕ) (ops : List Operation) (o : Reading) : Typ
   pub number : length ops ≤ o.read.asked
   pub size : (bytes_of ops ≤ o.task.params.max_read_request_size) ⊎ (length ops ≡ 1)
 
+-- a reply brings at most so many operations, and at most so many bytes unless it is one operation; other messages are no replies
+abbrev pub BringsWithin : ℕ → ℕ → Content → Type 0
+BringsWithin max_ops max_bytes (contents.ReadReply from global ops) = (length ops ≤ max_ops) × ((bytes_of ops ≤ max_bytes) ⊎ (length ops ≡ 1))
+BringsWithin max_ops max_bytes _ = Unit {0}
+
+abbrev pub BringWithin : ℕ → ℕ → List Frame → Type 0
+BringWithin max_ops max_bytes sent = AllByRecursion (λ (m : Frame). BringsWithin max_ops max_bytes m.content) sent
+
+-- what is sent for a request for operations brings no more than it asks for, and what is sent for any other message brings none
+abbrev pub BringAsAsked : Content → List Frame → Type 0
+BringAsAsked (contents.ReadRequest history from max_ops max_bytes timeout) sent = BringWithin max_ops max_bytes sent
+BringAsAsked _ sent = BringWithin 0 0 sent
+
 -- ---- sessions
 
 -- all operations in a session's files
@@ -83,8 +110,15 @@ pub record IsAsOpened (p : Past) (number : ℕ) (history : List ℕ) (count : �
   pub session : Session
   pub opened : session_of p.opened number ≡ Some session
   pub same_count : count ≡ session.count
-  pub same_history : history ≡ p.state.leader.start.history
+  pub same_history : history ≡ p.opened_in number
   pub same_sizes : sizes ≡ sizes_of session
+
+-- an open session is as it was opened, but for its last activity
+pub record IsOpenAsOpened (opened : List Session) (s : Session) : Type 0 where
+  pub first : Session
+  pub found : session_of opened s.number ≡ Some first
+  pub same_count : first.count ≡ s.count
+  pub same_files : first.files ≡ s.files
 
 -- a part of a file, from an offset within it on, of the session as it was opened
 pub record IsPlaceIn (p : Past) (number file offset : ℕ) : Type 0 where
@@ -133,19 +167,25 @@ abbrev pub IsWholePart : Past → ℕ → ℕ → ℕ → List ℕ → Fetching 
 IsWholePart p session file offset part o =
     IsAskedPlace session file offset o × IfSome (session_of p.opened session) (λ opened. part ≡ chunk_of opened file offset o.restore.chunk_size)
 
--- a bootstrap that fetches has the session as it was opened, and the parts that it has are that session's
-pub record IsTrueFetch (p : Past) (f : Fetch) : Type 0 where
+-- a bootstrap that fetches has the session as it was opened, in the history that it follows, and the parts that it has are that session's
+pub record IsTrueFetch (p : Past) (history : List ℕ) (f : Fetch) : Type 0 where
+  pub same_history : f.history ≡ history
   pub session : IsAsOpened p f.session f.history f.count f.sizes
   pub chunks : AllByRecursion (λ (c : Chunk). IsPartOf p f.session c.file c.offset c.bytes) f.chunks
 
-abbrev pub IsTrueStage : Past → Stage → Type 0
-IsTrueStage p (leasing a) = Unit {0}
-IsTrueStage p (opening a) = Unit {0}
-IsTrueStage p (fetching f) = IsTrueFetch p f
+abbrev pub IsTrueStage : Past → List ℕ → Stage → Type 0
+IsTrueStage p history (leasing a) = Unit {0}
+IsTrueStage p history (opening a) = Unit {0}
+IsTrueStage p history (fetching f) = IsTrueFetch p history f
 
-abbrev pub IsTrueWork : Past → Work → Type 0
-IsTrueWork p (restoring r) = IsTrueStage p r.stage
-IsTrueWork p (replicating t) = Unit {0}
+-- the bootstrap and the task are of the history that the follower follows
+abbrev pub IsTrueWork : Past → List ℕ → Work → Type 0
+IsTrueWork p history (restoring r) = (r.history ≡ history) × IsTrueStage p history r.stage
+IsTrueWork p history (replicating t) = t.history ≡ history
+
+-- the operations are committed in the history of the follower that has this UUID
+abbrev pub AreCommittedFor : Past → List ℕ → List Operation → Type 0
+AreCommittedFor p uuid ops = IfSome (named_follower p.state.followers uuid) (λ f. AllByRecursion (IsCommitted (line_of p f.history)) ops)
 
 -- ---- messages
 
@@ -154,7 +194,7 @@ abbrev pub IsTrueContent : Past → List ℕ → ℕ → Content → Type 0
 IsTrueContent p uuid request (contents.ReadRequest history from max_ops max_bytes timeout) =
     IfSome (reading_of p.state uuid request) (AsksAsRead history from max_ops max_bytes)
 IsTrueContent p uuid request (contents.ReadReply from global ops) =
-    AllByRecursion (IsCommitted p.line) ops × IfSome (reading_of p.state uuid request) (BringsAsAsked from ops)
+    AreCommittedFor p uuid ops × IfSome (reading_of p.state uuid request) (BringsAsAsked from ops)
 IsTrueContent p uuid request (contents.SessionOpened session history count sizes) = IsAsOpened p session history count sizes
 IsTrueContent p uuid request (contents.ChunkRequest session file offset size) =
     IsPlaceIn p session file offset
@@ -172,11 +212,20 @@ IsTrueContent p uuid request contents.SessionOpen = Unit {0}
 IsTrueContent p uuid request (contents.SessionGone session) = Unit {0}
 IsTrueContent p uuid request (contents.NotReady copy) = Unit {0}
 
+-- a request for operations asks for one at least
+abbrev pub AsksForSome : Content → Type 0
+AsksForSome (contents.ReadRequest history from max_ops max_bytes timeout) = 1 ≤ max_ops
+AsksForSome _ = Unit {0}
+
 pub record IsTrueFrame (p : Past) (m : Frame) : Type 0 where
+  pub named : IsNamed p.state m.follower
+  pub some : AsksForSome m.content
   pub drawn : IsDrawn p.state m.follower m.request
   pub content : IsTrueContent p m.follower m.request m.content
 
 pub record IsTruePoll (p : Past) (poll : Poll) : Type 0 where
+  pub named : IsNamed p.state poll.follower
+  pub some : 1 ≤ poll.max_ops
   pub drawn : IsDrawn p.state poll.follower poll.request
   pub asks : IfSome (reading_of p.state poll.follower poll.request) (AsksAsRead poll.history poll.from poll.max_ops poll.max_bytes)
 
@@ -184,5 +233,8 @@ pub record AreTrueFrames (p : Past) : Type 0 where
   pub flight : AllByRecursion (IsTrueFrame p) p.state.flight
   pub polls : AllByRecursion (IsTruePoll p) p.state.leader.polls
   pub kept : AllByRecursion (λ (k : KeptRequest). IsDrawn p.state k.follower k.request) p.state.leader.kept
-  pub sessions : AllByRecursion (HoldsHistory p.line) p.opened
-  pub works : AllByRecursion (λ (f : Follower). IsTrueWork p f.work) p.state.followers
+  pub kept_named : AllByRecursion (λ (k : KeptRequest). IsNamed p.state k.follower) p.state.leader.kept
+  pub sessions : AllByRecursion (λ (session : Session). HoldsHistory (line_of p (p.opened_in session.number)) session) p.opened
+  pub still : AllByRecursion (IsOpenAsOpened p.opened) p.state.leader.sessions
+  pub names : (f : ℕ) (own : Follower) → slice_get p.state.followers f ≡ Some own → IsNamedAlone p.state f own
+  pub works : AllByRecursion (λ (f : Follower). IsTrueWork p f.history f.work) p.state.followers

@@ -12,8 +12,9 @@ use Rattle.ccr_model.specs.Tasks.{Task, Read, is_active}
 use Rattle.ccr_model.specs.Restores.{Stage, leasing, opening, fetching, answers}
 use Rattle.ccr_model.specs.Followers.{Follower, Work, restoring, replicating, uuid_of}
 use Rattle.ccr_model.specs.LeaseHistory.{retained, is_lost_after}
-use Rattle.ccr_model.specs.Past.{Line, Past, FollowerPast, WrittenBatch}
-use Rattle.ccr_model.specs.CopyFacts.{IsLinePrimary, IsLineCopy, IsKnownTruly, KnowsWhenReady, HoldsEnough, RetainsTruly, IsBehind}
+use Rattle.ccr_model.specs.World.{State}
+use Rattle.ccr_model.specs.Past.{Line, Past, FollowerPast, WrittenBatch, line_of, all_notes}
+use Rattle.ccr_model.specs.CopyFacts.{Ascend, IsLinePrimary, IsLineCopy, IsKnownTruly, KnowsWhenReady, HoldsEnough, RetainsTruly, IsBehind}
 use Rattle.ccr_model.specs.FrameFacts.{AreTrueFrames, IsCommitted, reading_of}
 use Rattle.ccr_model.specs.TaskFacts.{IsTrueTask, IsBounded}
 
@@ -27,13 +28,14 @@ pub record IsTrueReplica (p : Past) (r : Replica) : Type 0 where
   pub leases : RetainsTruly p.notes r.copy
   pub behind : IsBehind p.state.leader.copies.primary.leases r.copy.leases
 
--- what holds of the leader's copies
+-- what holds of the leader's copies; a stale copy holds enough of what it was given
 pub record IsTrueLeader (p : Past) : Type 0 where
   pub primary : IsLinePrimary p.line (p.given p.state.leader.copies.primary.number) p.state.leader.copies.primary
   pub copy : IsLineCopy p.line (p.given p.state.leader.copies.primary.number) true p.state.leader.copies.primary
   pub store : HoldsEnough (p.given p.state.leader.copies.primary.number) 0 p.state.leader.copies.primary
   pub leases : RetainsTruly p.notes p.state.leader.copies.primary
   pub replicas : AllByRecursion (IsTrueReplica p) p.state.leader.copies.replicas
+  pub stale : AllByRecursion (λ (c : Copy). HoldsEnough (p.given c.number) 0 c) p.state.leader.stale
   pub ready : KnowsWhenReady p.line p.state.leader.copies
 
 -- ---- a follower's copies
@@ -66,7 +68,7 @@ IsTrueReplication line past (replicating t) = IsTrueTask line t past.begun_at pa
 pub record IsKept (p : Past) (f : ℕ) (lease : List ℕ) : Type 0 where
   pub place : ℕ
   pub answer : (p.followers f).answer ≡ Some place
-  pub kept : is_lost_after lease place p.notes ≡ false
+  pub kept : is_lost_after lease place (all_notes p) ≡ false
 
 -- the number of a renewal of this lease
 abbrev pub renewal_of : List ℕ → Content → Option ℕ
@@ -113,7 +115,7 @@ is_missing _ = false
 pub record IsLost (p : Past) (f : ℕ) (lease : List ℕ) : Type 0 where
   pub place : ℕ
   pub answer : (p.followers f).answer ≡ Some place
-  pub lost : is_lost_after lease place p.notes ≡ true
+  pub lost : is_lost_after lease place (all_notes p) ≡ true
 
 -- a message that tells this follower that operations are missing answers no read of it, or its lease was lost
 abbrev pub IsMissingTruly : Past → ℕ → Follower → Frame → Type 0
@@ -123,13 +125,20 @@ IsMissingTruly p f s m =
 
 -- ---- all of it
 
+-- its copies and its task have the line of its own history; its lease is spoken of where that is the leader's
 pub record IsTrueFollower (p : Past) (f : ℕ) (s : Follower) : Type 0 where
-  pub copies : AreTrueCopies p.line (p.followers f) s.copies
-  pub work : IsTrueReplication p.line (p.followers f) s.work
-  pub retained : RetainsForWork p f s s.work
+  pub copies : AreTrueCopies (line_of p s.history) (p.followers f) s.copies
+  pub work : IsTrueReplication (line_of p s.history) (p.followers f) s.work
+  pub retained : s.history ≡ p.state.leader.history → RetainsForWork p f s s.work
   pub missing : AllByRecursion (IsMissingTruly p f s) p.state.flight
 
+-- the replicas of the leader, and of each follower, stand in ascending number
+pub record CopiesAscend (s : State) : Type 0 where
+  pub leader : Ascend s.leader.copies
+  pub followers : AllByRecursion (λ (f : Follower). Ascend f.copies) s.followers
+
 pub record Invariant (p : Past) : Type 0 where
+  pub order : CopiesAscend p.state
   pub leader : IsTrueLeader p
   pub frames : AreTrueFrames p
   pub followers : (f : ℕ) (s : Follower) → slice_get p.state.followers f ≡ Some s → IsTrueFollower p f s

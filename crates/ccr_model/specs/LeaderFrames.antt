@@ -39,14 +39,14 @@ read_ops c from max_ops max_bytes = cut_of max_ops max_bytes (run_from (held c.s
 -- a read is answered: it is of another history, or asks below the floor, or gets the operations that there are
 abbrev pub answer_read : Leader → Poll → Copy → Leader → Outcome Leader
 answer_read s p c next =
-    if not (bytes_eq p.history s.start.history) then hears heard.History next (answer_to p.follower p.request (contents.ReadHistory s.start.history))
+    if not (bytes_eq p.history s.history) then hears heard.History next (answer_to p.follower p.request (contents.ReadHistory s.history))
     else (if nat_lt p.from c.floor then hears (heard.Missing p.from c.floor) next (answer_to p.follower p.request (contents.ReadMissing p.from c.floor))
     else hears (if nat_lt p.from c.global then heard.Done else heard.Empty) next
     (answer_to p.follower p.request (contents.ReadReply p.from c.global (read_ops c p.from p.max_ops p.max_bytes))))
 
 -- the read has nothing to bring yet, and would be answered neither by another history nor by a floor
 abbrev pub has_to_wait : Leader → Poll → Copy → Bool
-has_to_wait s p c = bytes_eq p.history s.start.history && not (nat_lt p.from c.floor) && not (nat_lt p.from c.global)
+has_to_wait s p c = bytes_eq p.history s.history && not (nat_lt p.from c.floor) && not (nat_lt p.from c.global)
 
 -- a read comes to a copy: it is parked where it has to wait
 unfoldable pub read_row : Leader → Poll → ℕ → Option Copy → Outcome Leader
@@ -129,7 +129,7 @@ session_open_row s follower request (Some copy) = hears (heard.NotReady copy) s 
 session_open_row s follower request None =
     let session = new_session s in
     hears heard.Done (record s { next_session = s.next_session + 1; sessions = s.sessions ++ session ∷ [] })
-    (answer_to follower request (contents.SessionOpened session.number s.start.history session.count (sizes_of session)))
+    (answer_to follower request (contents.SessionOpened session.number s.history session.count (sizes_of session)))
 
 -- the sessions, where the one of this number was active now
 abbrev pub active_at : ℕ → ℕ → List Session → List Session

@@ -18,13 +18,13 @@ use Rattle.ccr_journal.specs.declared.replies.Reply.TheVariants as replies
 use Rattle.ccr_journal.specs.declared.replies.Wrote.{Wrote}
 use Rattle.ccr_journal.specs.declared.replies.WriteResult.{WriteResult}
 use Rattle.ccr_journal.specs.declared.replies.WriteResult.TheVariants.{Created, Updated, Deleted, NotFound}
-use Rattle.ccr_journal.specs.declared.replies.Refusal.TheVariants.{BadSource, Conflict, Exists}
+use Rattle.ccr_journal.specs.declared.replies.Refusal.TheVariants.{BadSource, Conflict, Exists, NoStale}
 use Rattle.ccr_model.specs.Operations.{live, run_from}
 use Rattle.ccr_model.specs.Stores.{Store, held, sifted, stored_all}
 use Rattle.ccr_model.specs.Outcomes.{Outcome, refused, answered, guarded, within}
 use Rattle.ccr_model.specs.Copies.{Copy, Replica, Copies, replica_of, copy_of, replaced, counted, taking, all_copies, statuses_of, greatest, greatest_floor, has_lease}
 use Rattle.ccr_model.specs.CopyRows.{not_replica, replicate_row, ack_row, sync_row, fail_copy_row, add_copy_row, flush_row, merge_row, succeeded, unknown}
-use Rattle.ccr_model.specs.Leaders.{Leader, Session, KeptRequest}
+use Rattle.ccr_model.specs.Leaders.{Leader, Session, KeptRequest, history_of_term, with_stale, stale_of}
 
 abbrev pub with_copies : Leader → Copies → Leader
 with_copies s copies = record s { copies = copies }
@@ -67,9 +67,9 @@ source_fault None = None
 source_fault (Some body) = elim (compact_of body) as (λ _. Option SourceFault) [ Ok text ↦ None | Err fault ↦ Some fault ]
 
 -- what a request does, where its source can be read
-abbrev pub kind_of_request : List ℕ → Option (List ℕ) → Kind
-kind_of_request id None = Delete id
-kind_of_request id (Some body) = elim (compact_of body) as (λ _. Kind) [ Ok text ↦ Index id text | Err fault ↦ Delete id ]
+abbrev pub kind_of_request : List ℕ → Option (List ℕ) → Option (List ℕ) → Kind
+kind_of_request id routing None = Delete id routing
+kind_of_request id routing (Some body) = elim (compact_of body) as (λ _. Kind) [ Ok text ↦ Index id routing text | Err fault ↦ Delete id routing ]
 
 -- the operation of a document, as a conflict tells it
 abbrev pub place_of_live : Option Operation → Option (ℕ × ℕ)
@@ -105,7 +105,7 @@ written_operation request wrote = record {
   seq = wrote.seq;
   term = wrote.term;
   version = wrote.version;
-  kind = kind_of_request request.id request.body;
+  kind = kind_of_request request.id request.routing request.body;
 }
 
 -- the copies, where the primary takes an operation
@@ -153,6 +153,25 @@ leader_promote_row s copy (Some r) =
       polls = filter (λ p. not (p.copy == s.copies.primary.number)) s.polls;
     }
 
+-- a stale copy as the only one, in a new term: it has no gap, all that it has is committed, and it has no lease
+abbrev pub as_only_copy : ℕ → Copy → Copy
+as_only_copy term c =
+    let whole = filled term (missing_numbers c.seen) c in
+    record whole { global = whole.seen.count; leases = record { term = term; version = 0; leases = [] } }
+
+-- a stale copy is made the primary, alone: a new history begins, and all other copies, the sessions, the kept requests and the polls end
+unfoldable pub force_promote_row : Leader → ℕ → Option Copy → Outcome Leader
+force_promote_row s copy None = refused s (NoStale copy)
+force_promote_row s copy (Some c) =
+    answered (replies.Forced (s.copies.term + 1) (length (missing_numbers c.seen))) record s {
+      history = history_of_term s.start.history (s.copies.term + 1);
+      copies = record s.copies { term = s.copies.term + 1; primary = as_only_copy (s.copies.term + 1) c; replicas = [] };
+      stale = [];
+      sessions = [];
+      kept = [];
+      polls = [];
+    }
+
 -- from where on a resync replaces what the replica has
 abbrev pub resync_mark : Copies → Replica → ℕ
 resync_mark s r = max r.copy.global s.primary.global
@@ -178,11 +197,13 @@ resync_row s copy (Some r) =
 
 -- ---- copies that leave, clocks, leases, sessions
 
--- the polls at a copy that left go with it
+-- a copy that left is kept as stale, and the polls at it end
 unfoldable pub leader_fail_copy_row : Leader → ℕ → Option Replica → Outcome Leader
 leader_fail_copy_row s copy None = within (with_copies s) (fail_copy_row s.copies copy None)
 leader_fail_copy_row s copy (Some r) =
-    within (λ copies. record s { copies = copies; polls = filter (λ p. not (p.copy == copy)) s.polls }) (fail_copy_row s.copies copy (Some r))
+    within
+    (λ copies. record s { copies = copies; stale = with_stale r.copy s.stale; polls = filter (λ p. not (p.copy == copy)) s.polls })
+    (fail_copy_row s.copies copy (Some r))
 
 unfoldable pub leader_clock_row : Leader → ℕ → Outcome Leader
 leader_clock_row s now = answered replies.Done record s { now = now }
@@ -225,6 +246,9 @@ leader_sync s copy = settling_requests (within (with_copies s) (sync_row s.copie
 
 abbrev pub leader_promote : Leader → ℕ → Outcome Leader
 leader_promote s copy = leader_promote_row s copy (replica_of s.copies copy)
+
+abbrev pub leader_force_promote : Leader → ℕ → Outcome Leader
+leader_force_promote s copy = force_promote_row s copy (stale_of s.stale copy)
 
 abbrev pub leader_resync : Leader → ℕ → Outcome Leader
 leader_resync s copy = within (with_copies s) (resync_row s.copies copy (replica_of s.copies copy))

@@ -1,9 +1,10 @@
 -- The leader's side of a shard world.
-use Rattle.std.specs.Prelude.{ℕ, ◌-◌, Bool, ◌==◌, if◌then◌else◌, List, [], ◌∷◌, filter, find, Option}
+use Rattle.std.specs.Prelude.{ℕ, ◌+◌, ◌-◌, Bool, ◌==◌, nat_lt, if◌then◌else◌, List, [], ◌∷◌, length, drop, filter, find, Option}
+use Rattle.std.specs.Int.{w128, from_be_bytes, to_be_bytes}
 use Rattle.std.specs.Str.{bytes_eq}
-use Rattle.ccr_model.specs.Copies.{Copies, new_copies}
+use Rattle.ccr_model.specs.Copies.{Copy, Copies, new_copies}
 
--- what a leader shard is made with: its number of copies, the UUID of its history, how many milliseconds a lease lasts, and how many
+-- what a leader shard is made with: its number of copies, the UUID of its first history, how many milliseconds a lease lasts, and how many
 -- operations are kept beyond the global count
 pub record Start : Type 0 where
   pub copies : ℕ
@@ -37,10 +38,13 @@ pub record Poll : Type 0 where
   pub timeout : ℕ
   pub parked : ℕ
 
--- the copies; the clock; the sessions; the kept requests and the polls, both in the order in which they came
+-- the UUID of the history; the copies; the copies that left and are kept as stale, in ascending number; the clock; the sessions; the kept
+-- requests and the polls, both in the order in which they came
 pub record Leader : Type 0 where
   pub start : Start
+  pub history : List ℕ
   pub copies : Copies
+  pub stale : List Copy
   pub now : ℕ
   pub next_session : ℕ
   pub sessions : List Session
@@ -50,7 +54,9 @@ pub record Leader : Type 0 where
 abbrev pub new_leader : Start → Leader
 new_leader start = record {
   start = start;
+  history = start.history;
   copies = new_copies start.copies;
+  stale = [];
   now = 0;
   next_session = 0;
   sessions = [];
@@ -72,3 +78,28 @@ without_poll follower at (p ∷ polls) =
 
 abbrev pub session_of : List Session → ℕ → Option Session
 session_of sessions number = find (λ s. s.number == number) sessions
+
+-- the UUID of the history that begins with a term, the first of which begins with term 1: of its 128 bits each term's is one more, and after
+-- the last comes 0
+abbrev pub history_of_term : List ℕ → ℕ → List ℕ
+history_of_term first term = to_be_bytes w128 (from_be_bytes w128 first + (term - 1))
+
+-- ---- stale copies
+
+-- the greatest number of stale copies that are kept
+abbrev pub most_stale : ℕ
+most_stale = 8
+
+-- the copy stands before those of greater number
+abbrev pub with_copy : Copy → List Copy → List Copy
+with_copy c [] = c ∷ []
+with_copy c (x ∷ xs) = if nat_lt c.number x.number then c ∷ x ∷ xs else x ∷ with_copy c xs
+
+-- one more copy is kept as stale, as it was; where that is one too many, the one of least number is forgotten
+abbrev pub with_stale : Copy → List Copy → List Copy
+with_stale c stale =
+    let all = with_copy c stale in
+    drop (length all - most_stale) all
+
+abbrev pub stale_of : List Copy → ℕ → Option Copy
+stale_of stale copy = find (λ c. c.number == copy) stale

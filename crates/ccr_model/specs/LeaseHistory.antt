@@ -1,4 +1,4 @@
--- The history of the leases: what the entries of a journal did to each.
+-- The history of the leases: what the entries of a journal did to each since the leader's history began.
 use Rattle.std.specs.Prelude.{ℕ, Bool, true, false, ◌&&◌, nat_lt, max, if◌then◌else◌, List, [], ◌∷◌, ◌++◌, map, filter, Option, Some, None}
 use Rattle.std.specs.List.{list_any}
 use Rattle.std.specs.Str.{bytes_eq}

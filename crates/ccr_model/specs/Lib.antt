@@ -26,3 +26,5 @@ pub mod Invariants
 pub mod Fit
 pub mod Headline
 pub mod Settling
+pub mod Policies
+pub mod SeveralShards

@@ -54,7 +54,7 @@ greatest_about (op ∷ ops) id = later (if is_about id op then Some op else None
 
 -- the operation, where it puts a document in place
 abbrev pub only_index : Operation → Option Operation
-only_index op = elim op.kind as (λ _. Option Operation) [ Index id body ↦ Some op | Delete id ↦ None | NoOp ↦ None ]
+only_index op = elim op.kind as (λ _. Option Operation) [ Index id routing body ↦ Some op | Delete id routing ↦ None | NoOp ↦ None ]
 
 -- the operation that put the live document of this id in place
 abbrev pub live : List Operation → List ℕ → Option Operation

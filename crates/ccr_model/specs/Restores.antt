@@ -1,7 +1,8 @@
 -- The bootstrap of a follower shard: it asks for its lease, opens a session, and fetches the session's files.
-use Rattle.std.specs.Prelude.{ℕ, ◌+◌, ◌-◌, ◌*◌, ◌/◌, Bool, ◌&&◌, ◌==◌, if◌then◌else◌, List, [], ◌∷◌, ◌++◌, length, take, drop, map, filter, find, flat_map, Option, Some, None}
+use Rattle.std.specs.Prelude.{ℕ, ◌+◌, ◌-◌, ◌*◌, ◌/◌, Bool, false, not, ◌&&◌, ◌==◌, if◌then◌else◌, List, [], ◌∷◌, ◌++◌, length, take, drop, map, filter, find, flat_map, Option, Some, None}
 use Rattle.std.specs.Option.{option_map_or}
 use Rattle.std.specs.List.{range_with_len, enumerate_from}
+use Rattle.std.specs.Str.{bytes_eq}
 use Rattle.ccr_op.specs.Operation.{Operation}
 use Rattle.ccr_segment.specs.Index.{ops_in}
 use Rattle.ccr_wire.specs.Message.{Frame}
@@ -47,9 +48,11 @@ pub data Stage : Type 0 where
   opening : Asked → Stage
   fetching : Fetch → Stage
 
+-- `history` is the leader's when the bootstrap began
 pub record Restore : Type 0 where
   pub lease : List ℕ
   pub follower : List ℕ
+  pub history : List ℕ
   pub chunk_size : ℕ
   pub max_retry_delay : ℕ
   pub next_request : ℕ
@@ -143,10 +146,11 @@ asks_more s f =
 
 -- ---- start, losses, retries
 
-abbrev pub restore_started : List ℕ → List ℕ → ℕ → ℕ → Sending Restore
-restore_started lease follower chunk_size max_retry_delay = asks_lease record {
+abbrev pub restore_started : List ℕ → List ℕ → List ℕ → ℕ → ℕ → Sending Restore
+restore_started lease follower history chunk_size max_retry_delay = asks_lease record {
   lease = lease;
   follower = follower;
+  history = history;
   chunk_size = chunk_size;
   max_retry_delay = max_retry_delay;
   next_request = 0;
@@ -230,6 +234,19 @@ chunk_came s f a bytes = asks_more (record s { retry = 0 }) (record f {
   chunks = f.chunks ++ record { file = a.file; offset = a.offset; bytes = bytes } ∷ [];
 })
 
+-- a session of another history is opened
+abbrev pub opens_other : List ℕ → Content → Bool
+opens_other own (contents.SessionOpened session history count sizes) = not (bytes_eq history own)
+opens_other own _ = false
+
+-- the message answers the request for a session with one of another history, by which the bootstrap ends
+abbrev pub ends_restore : Restore → Frame → Bool
+ends_restore s m = elim s.stage as (λ _. Bool) [
+  | leasing a ↦ false
+  | opening a ↦ answers m a && opens_other s.history m.content
+  | fetching f ↦ false
+]
+
 -- an answer to the request for the lease: the session is asked for where the lease is there
 abbrev pub hear_leasing : Restore → ℕ → ℕ → Content → Option (Sending Restore)
 hear_leasing s now request (contents.LeaseAdded number) = Some (asks_session (record s { retry = 0 }))
@@ -251,7 +268,7 @@ abbrev pub hear_asked : Restore → Fetch → Content → Option ChunkAsked → 
 hear_asked s f content None = None
 hear_asked s f content (Some a) = hear_fetching s f a content
 
--- what a message comes to in the bootstrap, and None where it answers no request that was sent
+-- what a message that doesn't end the bootstrap comes to in it, and None where it answers no request that was sent
 abbrev pub restore_hears : Restore → ℕ → Frame → Option (Sending Restore)
 restore_hears s now m = elim s.stage as (λ _. Option (Sending Restore)) [
   | leasing a ↦ if answers m a then hear_leasing s now m.request m.content else None

@@ -19,8 +19,8 @@ use Rattle.ccr_model.specs.Copies.{Copy}
 -- the document that an operation puts in place, where no operation of a greater number is about its id
 abbrev pub live_hit : List Operation → Operation → Option Hit
 live_hit ops op = elim op.kind as (λ _. Option Hit) [
-  | Index id body ↦ if option_map_or (λ last. last.seq == op.seq) (greatest_about ops id) false then Some (record { id = id; body = body }) else None
-  | Delete id ↦ None
+  | Index id routing body ↦ if option_map_or (λ last. last.seq == op.seq) (greatest_about ops id) false then Some (record { id = id; routing = routing; body = body }) else None
+  | Delete id routing ↦ None
   | NoOp ↦ None
 ]
 

@@ -1,6 +1,7 @@
 -- When nothing is left to be done in a shard world.
-use Rattle.std.specs.Prelude.{ℕ, Bool, false, not, ◌&&◌, ◌||◌, ◌==◌, nat_le, is_none}
+use Rattle.std.specs.Prelude.{ℕ, Bool, false, not, ◌&&◌, ◌||◌, ◌==◌, nat_le, List, is_none}
 use Rattle.std.specs.List.{list_all}
+use Rattle.std.specs.Str.{bytes_eq}
 use Rattle.ccr_model.specs.Operations.{is_empty}
 use Rattle.ccr_model.specs.Copies.{Copy, all_copies, not_ready}
 use Rattle.ccr_model.specs.Tasks.{is_active}
@@ -11,11 +12,11 @@ use Rattle.ccr_model.specs.World.{State}
 abbrev pub is_whole : ℕ → Copy → Bool
 is_whole count c = nat_le count c.seen.count && (c.global == count)
 
--- a follower is out of its bootstrap, its copies are whole where it is active, and it has nothing to write
-abbrev pub is_follower_settled : ℕ → Follower → Bool
-is_follower_settled count s = elim s.work as (λ _. Bool) [
+-- a follower is out of its bootstrap, and has nothing to write; where it is active, it has the leader's history and its copies are whole
+abbrev pub is_follower_settled : List ℕ → ℕ → Follower → Bool
+is_follower_settled history count s = elim s.work as (λ _. Bool) [
   | restoring r ↦ false
-  | replicating t ↦ is_empty t.buffer && is_empty t.writes && (not (is_active t.phase) || list_all (is_whole count) (all_copies s.copies))
+  | replicating t ↦ is_empty t.buffer && is_empty t.writes && (not (is_active t.phase) || (bytes_eq s.history history && list_all (is_whole count) (all_copies s.copies)))
 ]
 
 -- the history is what the leader's primary has processed
@@ -25,4 +26,4 @@ is_settled s =
     is_none (not_ready s.leader.copies)
     && list_all (is_whole count) (all_copies s.leader.copies)
     && is_empty s.flight
-    && list_all (is_follower_settled count) s.followers
+    && list_all (is_follower_settled s.leader.history count) s.followers

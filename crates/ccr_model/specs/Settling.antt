@@ -6,12 +6,14 @@ use Rattle.std.specs.Str.{bytes_eq}
 use Rattle.ccr_op.specs.Operation.{Operation}
 use Rattle.ccr_tracker.specs.Numbers.{has}
 use Rattle.ccr_lease.specs.Leases.{supersedes}
-use Rattle.ccr_journal.specs.Sameness.{same_operations}
+use Rattle.ccr_op.specs.Sameness.{same_operations}
 use Rattle.ccr_journal.specs.declared.sides.Side.{Side}
 use Rattle.ccr_journal.specs.declared.sides.Side.TheVariants as sides
 use Rattle.ccr_journal.specs.declared.sides.Phase.{Phase}
 use Rattle.ccr_journal.specs.declared.events.Event.{Event}
 use Rattle.ccr_journal.specs.declared.events.Event.TheVariants as events
+use Rattle.ccr_journal.specs.declared.journals.Entry.{Entry}
+use Rattle.ccr_journal.specs.declared.replies.Reply.TheVariants as replies
 use Rattle.ccr_model.specs.Copies.{Copy, Replica, Copies, replica_of, copy_of, not_ready, has_lease}
 use Rattle.ccr_model.specs.Requests.{Progress, on_its_way, waiting, held_back, is_due}
 use Rattle.ccr_model.specs.Tasks.{Read, Write, may_read, sent_reads}
@@ -20,6 +22,7 @@ use Rattle.ccr_model.specs.Leaders.{Poll, polls_of}
 use Rattle.ccr_model.specs.Followers.{Follower, Work, restoring, replicating, uuid_of, phase_of_work}
 use Rattle.ccr_model.specs.FollowerRows.{Sent, sent_write, has_all, lacks}
 use Rattle.ccr_model.specs.World.{State}
+use Rattle.ccr_model.specs.Step.{outcome_at}
 
 -- ---- what a worker reads
 
@@ -160,7 +163,29 @@ pub record MaySetClock (s : State) (f now : ℕ) : Type 0 where
   pub least : waits_until follower.work ≡ Some now
   pub alone : (event : Event) → may_act s event ≡ false
 
--- the events by which a world may be settled. A Take, which changes nothing, may stand before the Apply of its batch.
+-- the events that bring a world nearer to being settled, clocks among them
 abbrev pub MaySettle : State → Event → Type 0
 MaySettle s (events.Clock (sides.Follower f) now) = MaySetClock s f now
 MaySettle s event = may_act s event ≡ true
+
+-- the events that settling may use, whether they bring the world nearer or not: two workers may do the same. Refused ones may be among them.
+abbrev pub IsSettling : State → Event → Type 0
+IsSettling s (events.Replicate side copy seq) = Unit {0}
+IsSettling s (events.Ack side copy) = Unit {0}
+IsSettling s (events.Sync side copy) = Unit {0}
+IsSettling s (events.Resync copy) = Unit {0}
+IsSettling s (events.Take f write) = Unit {0}
+IsSettling s (events.Apply f epoch write batch) = Unit {0}
+IsSettling s (events.Written f write) = Unit {0}
+IsSettling s (events.Tick f) = Unit {0}
+IsSettling s (events.Deliver at copy keep) = (copy ≡ s.leader.copies.primary.number) × (keep ≡ false)
+IsSettling s (events.Wake f at) = may_wake s f at ≡ true
+IsSettling s (events.Lose f at) = may_lose s f at ≡ true
+IsSettling s (events.Clock (sides.Follower f) now) = MaySetClock s f now
+IsSettling s _ = ⊥
+
+-- a settle: events that settling may use, each at its place, and one Settle that is answered
+abbrev pub IsSettleRun : State → List Entry → Type 0
+IsSettleRun s [] = ⊥
+IsSettleRun s (entry ∷ []) = (entry.event ≡ events.Settle) × (entry.reply ≡ replies.Settled)
+IsSettleRun s (entry ∷ next ∷ entries) = IsSettling s entry.event × IsSettleRun (outcome_at s entry).next (next ∷ entries)

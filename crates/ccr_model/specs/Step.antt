@@ -11,7 +11,7 @@ use Rattle.ccr_journal.specs.declared.replies.Refusal.TheVariants.{NoFollower, N
 use Rattle.ccr_model.specs.Outcomes.{Outcome, refused, answered, guarded}
 use Rattle.ccr_model.specs.Copies.{Copy, copy_of}
 use Rattle.ccr_model.specs.Leaders.{Leader}
-use Rattle.ccr_model.specs.LeaderRows.{leader_write, leader_replicate, leader_ack, leader_sync, leader_promote, leader_resync, leader_fail_copy, leader_add_copy, leader_flush, leader_merge, leader_clock, leader_expire, leader_close_sessions, leader_status}
+use Rattle.ccr_model.specs.LeaderRows.{leader_write, leader_replicate, leader_ack, leader_sync, leader_promote, leader_force_promote, leader_resync, leader_fail_copy, leader_add_copy, leader_flush, leader_merge, leader_clock, leader_expire, leader_close_sessions, leader_status}
 use Rattle.ccr_model.specs.LeaderFrames.{leader_wake}
 use Rattle.ccr_model.specs.Followers.{Follower, uuid_of}
 use Rattle.ccr_model.specs.FollowerRows.{lose_row, tick_row, follower_clock_row, sent_write, lose_write_row, take_row, apply_row, written_row, task_of, renew_row, pause_row, resume_row, restart_row, unfollow_row, follower_add_copy_row, follower_replicate, follower_ack, follower_sync, follower_promote, follower_fail_copy, follower_flush, follower_merge, follower_status_row}
@@ -46,6 +46,7 @@ step s (events.Replicate side copy seq) picks = on_side s side (λ l. leader_rep
 step s (events.Ack side copy) picks = on_side s side (λ l. leader_ack l copy) (λ f. follower_ack f copy)
 step s (events.Sync side copy) picks = on_side s side (λ l. leader_sync l copy) (λ f. follower_sync f copy)
 step s (events.Promote side copy) picks = on_side s side (λ l. leader_promote l copy) (λ f. follower_promote f copy)
+step s (events.ForcePromote copy) picks = at_leader s (leader_force_promote s.leader copy)
 step s (events.Resync copy) picks = at_leader s (leader_resync s.leader copy)
 step s (events.FailCopy side copy) picks = on_side s side (λ l. leader_fail_copy l copy) (λ f. follower_fail_copy f copy)
 step s (events.AddCopy side) picks = on_side s side (λ l. leader_add_copy l) (λ f. follower_add_copy_row f)

@@ -59,8 +59,8 @@ abbrev pub is_droppable : ℕ → ℕ → List Operation → Operation → Bool
 is_droppable bound count ops op =
     nat_lt op.seq bound
     && (elim op.kind as (λ _. Bool) [
-      | Index id body ↦ is_passed id op count ops
-      | Delete id ↦ is_passed id op count ops || is_least id op ops
+      | Index id routing body ↦ is_passed id op count ops
+      | Delete id routing ↦ is_passed id op count ops || is_least id op ops
       | NoOp ↦ true
     ])
 

@@ -1,9 +1,10 @@
 -- What holds of an active task at every place of a legal journal, and the bounds of its memory.
-use Rattle.std.specs.Prelude.{◌≡◌, ◌⊎◌, ℕ, ◌+◌, ◌-◌, ◌*◌, ◌≤◌, Bool, true, false, ◌&&◌, ◌==◌, nat_lt, nat_le, max, if◌then◌else◌, List, [], length, map, filter, flat_map, count_by}
-use Rattle.std.specs.List.{AllByRecursion}
+use Rattle.std.specs.Prelude.{◌≡◌, ◌⊎◌, ℕ, ◌+◌, ◌-◌, ◌*◌, ◌≤◌, ◌<◌, Bool, true, false, ◌&&◌, ◌==◌, nat_lt, nat_le, max, if◌then◌else◌, List, [], length, map, filter, flat_map, count_by}
+use Rattle.std.specs.List.{AllByRecursion, list_any}
 use Rattle.ccr_op.specs.Operation.{Operation}
 use Rattle.ccr_model.specs.Operations.{size_of}
 use Rattle.ccr_model.specs.Copies.{greatest}
+use Rattle.ccr_model.specs.Requests.{Progress, on_its_way, waiting, held_back}
 use Rattle.ccr_model.specs.Tasks.{Task, Read, Write, is_active, bytes_of, may_read, has_budget, is_held}
 use Rattle.ccr_model.specs.Past.{Line, WrittenBatch}
 use Rattle.ccr_model.specs.FrameFacts.{IsCommitted}
@@ -78,3 +79,16 @@ is_received t written n = nat_lt 0 (times_in n t.buffer + times_in n (batches_of
 pub record AsksOnce (t : Task) (written : List WrittenBatch) : Type 0 where
   pub reads : AllByRecursion (λ (r : Read). (n : ℕ) → is_in_read n r ≡ true → is_received t written n ≡ false) t.reads
   pub later : (n : ℕ) → t.next ≤ n → is_received t written n ≡ false
+
+-- a read that was lost asks again for what it asked for: a request from this number on for so many operations repeats it
+abbrev pub is_waiting : Progress → Bool
+is_waiting on_its_way = false
+is_waiting (waiting until) = true
+is_waiting held_back = false
+
+abbrev pub is_repeated : Task → ℕ → ℕ → Bool
+is_repeated t from max_ops = list_any (λ r. (r.from == from) && (r.asked == max_ops) && is_waiting r.progress) t.reads
+
+-- none of the numbers that a request asks for was received in the task's epoch
+abbrev pub AsksUnreceived : Task → List WrittenBatch → ℕ → ℕ → Type 0
+AsksUnreceived t written from max_ops = (n : ℕ) → from ≤ n → n < from + max_ops → is_received t written n ≡ false

@@ -178,6 +178,24 @@ started params count epoch history follower request = fill record {
   writes = [];
 }
 
+-- the task of a bootstrap that ended without one: it never began an epoch, and is stopped
+abbrev pub never_started : ParamValues → List ℕ → List ℕ → ℕ → Phase → Task
+never_started params history follower request phase = record {
+  params = params;
+  history = history;
+  follower = follower;
+  phase = phase;
+  epoch = 0;
+  next_request = request;
+  retry = 0;
+  next = 0;
+  known = 0;
+  reads = [];
+  buffer = [];
+  next_write = 0;
+  writes = [];
+}
+
 -- the task is stopped: reads and buffer are dropped, outstanding writes stay
 abbrev pub stopped : Phase → Task → Task
 stopped phase t = record t { phase = phase; reads = []; buffer = [] }

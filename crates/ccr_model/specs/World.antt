@@ -1,7 +1,9 @@
 -- A shard world: one leader shard, its followers in the order in which they were made, and the messages in flight, oldest first.
 use Rattle.std.specs.Prelude.{ℕ, ◌+◌, Bool, true, false, nat_le, if◌then◌else◌, List, [], ◌∷◌, ◌++◌, length, position, remove, slice_get, slice_set, Option, Some, None}
+use Rattle.std.specs.Option.{option_map}
 use Rattle.std.specs.Str.{bytes_eq}
 use Rattle.ccr_wire.specs.Message.{Frame, kind_of_content}
+use Rattle.ccr_wire.specs.Spelling.{spelling}
 use Rattle.ccr_wire.specs.declared.kind.FrameKind.{FrameKind}
 use Rattle.ccr_wire.specs.declared.kind.FrameKind.TheVariants as kinds
 use Rattle.ccr_query.specs.Queries.{Tree}
@@ -50,6 +52,10 @@ goes_to_leader kinds.SessionOpen = true
 goes_to_leader kinds.ChunkRequest = true
 goes_to_leader _ = false
 
+-- the bytes of the message at this place of those in flight
+abbrev pub frame_at : State → ℕ → Option (List ℕ)
+frame_at s at = option_map {T = Frame} {U = List ℕ} spelling (slice_get s.flight at)
+
 -- the place of the follower whose UUID this is, counted from a number on
 abbrev pub follower_from : ℕ → List Follower → List ℕ → Option ℕ
 follower_from f [] uuid = None
@@ -88,7 +94,7 @@ most_followers = 8
 
 abbrev pub with_new_follower : State → ParamValues → ℕ → List ℕ → Outcome State
 with_new_follower s params copies name =
-    let made = new_follower (length s.followers) params copies name s.leader.start.retention in
+    let made = new_follower (length s.followers) params copies name s.leader.history s.leader.start.retention in
     record {
       reply = replies.Done;
       next = record s { followers = s.followers ++ made.next ∷ []; flight = s.flight ++ made.sent };

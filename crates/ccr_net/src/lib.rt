@@ -6,12 +6,13 @@ ghost use Rattle.std.specs.Prelude.{◌≡◌, ◌<◌, [], ◌∷◌, ◌++◌,
 
 use bytes::Bytes;
 use std::alloc::{AllocError, Global};
+use std::collections::VecDeque;
 use std::marker::Model;
 
 /// The frames in flight, oldest first. Contracts see the list of their bytes.
 #[derive(Drop)]
 pub struct Net {
-    frames: Vec<Bytes>,
+    frames: VecDeque<Bytes>,
 }
 
 impl Model for Net {
@@ -28,7 +29,7 @@ impl Net {
         ensures { result ≡ [] }
     {
         Net {
-            frames: Vec::new(alloc),
+            frames: VecDeque::new(alloc),
         }
     }
 
@@ -37,7 +38,7 @@ impl Net {
         ensures ok { OnOk result (self.new ≡ self.old ++ frame ∷ []) }
         ensures err { OnErr result (self.new ≡ self.old) }
     {
-        self.frames.push(frame)?;
+        self.frames.push_back(frame)?;
         Ok(())
     }
 
@@ -48,16 +49,14 @@ impl Net {
         self.frames.get(at)
     }
 
-    /// Takes the frame at a place out. Those behind it move up by one place, so this costs time with their
-    /// number. `None` exactly where there are not that many; then the net is as before.
+    /// Takes the frame at a place out, and those behind it move up by one place. This costs time with the
+    /// number of frames before the place or behind it, whichever are fewer: the oldest and the newest leave at
+    /// once. `None` exactly where there are not that many; then the net is as before.
     pub fn take(&mut self, at: usize) -> Option<Bytes>
         ensures frame { result ≡ slice_get self.old at }
         ensures after { MatchOption result (self.new ≡ self.old) (λ _. self.new ≡ remove self.old at) }
     {
-        if at >= self.frames.len() {
-            return None;
-        }
-        Some(self.frames.remove(at))
+        self.frames.remove(at)
     }
 
     /// Loses the frame at a place, as `take` does, and says whether there was one.
@@ -65,11 +64,8 @@ impl Net {
         ensures there { IsTrue result ↔ (at < length self.old) }
         ensures after { MatchBool result (self.new ≡ remove self.old at) (self.new ≡ self.old) }
     {
-        if at >= self.frames.len() {
-            return false;
-        }
-        let _lost = self.frames.remove(at);
-        true
+        let lost = self.frames.remove(at);
+        lost.is_some()
     }
 
     /// How many frames are in flight.

@@ -1,3 +1,4 @@
 pub mod UtfTests
 pub mod FieldLaws
 pub mod OperationLaws
+pub mod Sameness

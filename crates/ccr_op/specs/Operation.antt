@@ -1,4 +1,4 @@
-use Rattle.std.specs.Prelude.{◌≡◌, ℕ, ◌≤◌, ◌<◌, ◌^◌, List, length, Option, Some, None}
+use Rattle.std.specs.Prelude.{◌≡◌, ℕ, ◌≤◌, ◌<◌, ◌^◌, Bool, List, length, Option, Some, None, IfSome, is_some}
 use Rattle.std.specs.Str.{IsUtf8}
 use Rattle.ccr_op.specs.Ids.{IsIdText}
 use Rattle.ccr_op.specs.declared.operation.Kind.{Kind}
@@ -11,16 +11,23 @@ pub record Operation : Type 0 where
   pub version : ℕ
   pub kind : Kind
 
+-- the least and the most bytes of a source
+abbrev pub least_source_bytes : ℕ
+least_source_bytes = 2
+
+abbrev pub most_source_bytes : ℕ
+most_source_bytes = 524288
+
 -- a text that may be the source of an index operation: 2 to 524,288 bytes
 pub record IsSourceText (bytes : List ℕ) : Type 0 where
-  pub some : 2 ≤ length bytes
-  pub few : length bytes ≤ 524288
+  pub some : least_source_bytes ≤ length bytes
+  pub few : length bytes ≤ most_source_bytes
   pub text : IsUtf8 bytes
 
 -- the texts of a kind are within their bounds, and a no-op has version 0
 abbrev pub KindFits : Kind → ℕ → Type 0
-KindFits (Index id body) version = IsIdText id × IsSourceText body
-KindFits (Delete id) version = IsIdText id
+KindFits (Index id routing body) version = IsIdText id × IfSome routing IsIdText × IsSourceText body
+KindFits (Delete id routing) version = IsIdText id × IfSome routing IsIdText
 KindFits NoOp version = version ≡ 0
 
 -- the operation can be spelled in bytes
@@ -32,6 +39,15 @@ pub record HasSpelling (op : Operation) : Type 0 where
 
 -- the id that an operation is about
 abbrev pub id_of : Kind → Option (List ℕ)
-id_of (Index id body) = Some id
-id_of (Delete id) = Some id
+id_of (Index id routing body) = Some id
+id_of (Delete id routing) = Some id
 id_of NoOp = None
+
+-- the text that was routed by in place of the id
+abbrev pub routing_of : Kind → Option (List ℕ)
+routing_of (Index id routing body) = routing
+routing_of (Delete id routing) = routing
+routing_of NoOp = None
+
+abbrev pub is_routed : Operation → Bool
+is_routed op = is_some (routing_of op.kind)

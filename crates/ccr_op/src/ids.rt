@@ -1,4 +1,5 @@
-ghost use Rattle.std.specs.Prelude.{◌≡◌, ◌↔◌, IfOk, IsSome, IfSome, string_bytes, Some};
+ghost use Rattle.std.specs.Prelude.{◌≡◌, ◌↔◌, IfOk, IsSome, IfSome, Some};
+ghost use Rattle.std.specs.Arc.{arc_str_bytes};
 ghost use Rattle.std.specs.Str.{bytes_eq};
 ghost use Rattle.std.specs.Ordering.{nat_cmp};
 ghost use Rattle.std.specs.Cmp.Lexicographic.{pointwise, slice_cmp};
@@ -8,33 +9,35 @@ ghost use Rattle.ccr_op.specs.Ids.{IsIdText};
 use std::alloc::{AllocError, Global};
 use std::cmp::Ordering;
 use std::marker::Model;
+use std::sync::ArcStr;
 
 /// The most bytes that an id has.
 pub const MOST_ID_BYTES: usize = 512;
 
 /// The id of a document: a text of 1 to 512 bytes.
-/// Ids are ordered by their bytes. Contracts see the UTF-8 bytes.
+/// Ids are ordered by their bytes. Contracts see the UTF-8 bytes. Copies share the text.
 #[derive(Debug, Drop)]
 pub struct DocId {
-    text: String,
+    text: ArcStr,
 }
 
 impl Model for DocId {
-    ghost use Rattle.std.specs.Prelude.{List, ℕ, string_bytes};
+    ghost use Rattle.std.specs.Prelude.{List, ℕ};
+    ghost use Rattle.std.specs.Arc.{arc_str_bytes};
     ghost use Rattle.ccr_op.specs.Ids.{IsIdText};
 
     ghost Value = { List ℕ };
 
-    ghost view = { λ a. string_bytes a.text };
+    ghost view = { λ a. arc_str_bytes a.text };
 
-    ghost invariant = { λ a. IsIdText (string_bytes a.text) };
+    ghost invariant = { λ a. IsIdText (arc_str_bytes a.text) };
 }
 
 impl DocId {
     /// The id of this text, or `None` exactly where it has none or more than 512 bytes.
-    pub fn new(text: String) -> Option<Self>
-        ensures bounds { IsSome result ↔ IsIdText (string_bytes text) }
-        ensures value { IfSome result (λ id. id ≡ string_bytes text) }
+    pub fn new(text: ArcStr) -> Option<Self>
+        ensures bounds { IsSome result ↔ IsIdText (arc_str_bytes text) }
+        ensures value { IfSome result (λ id. id ≡ arc_str_bytes text) }
     {
         let length = text.as_str().len();
         if length == 0 || length > MOST_ID_BYTES {
@@ -51,11 +54,22 @@ impl DocId {
         self.text.as_str()
     }
 
-    /// An equal id.
-    pub fn copy(&self, alloc: Global) -> Result<Self, AllocError>
+    /// An equal id, over the same text: it takes no memory, and fails only where the count of owners is full.
+    pub fn copy(&self, _alloc: Global) -> Result<Self, AllocError>
         ensures { IfOk result (λ other. other ≡ self.now) }
     {
-        let text = String::from_str(alloc, self.text.as_str())?;
+        self.clone()
+    }
+}
+
+impl Clone for DocId {
+    ghost use Rattle.std.specs.Prelude.{◌≡◌};
+
+    ghost is_clone = { λ a b. b ≡ a };
+
+    fn clone(&self) -> Result<DocId, AllocError> {
+        let _bounds = self.as_str();
+        let text = self.text.clone()?;
         Ok(DocId { text })
     }
 }
@@ -113,28 +127,29 @@ impl Ord for DocId {
 }
 
 /// The id of a retention lease: a text of 1 to 512 bytes.
-/// Ids are ordered by their bytes. Contracts see the UTF-8 bytes.
+/// Ids are ordered by their bytes. Contracts see the UTF-8 bytes. Copies share the text.
 #[derive(Debug, Drop)]
 pub struct LeaseId {
-    text: String,
+    text: ArcStr,
 }
 
 impl Model for LeaseId {
-    ghost use Rattle.std.specs.Prelude.{List, ℕ, string_bytes};
+    ghost use Rattle.std.specs.Prelude.{List, ℕ};
+    ghost use Rattle.std.specs.Arc.{arc_str_bytes};
     ghost use Rattle.ccr_op.specs.Ids.{IsIdText};
 
     ghost Value = { List ℕ };
 
-    ghost view = { λ a. string_bytes a.text };
+    ghost view = { λ a. arc_str_bytes a.text };
 
-    ghost invariant = { λ a. IsIdText (string_bytes a.text) };
+    ghost invariant = { λ a. IsIdText (arc_str_bytes a.text) };
 }
 
 impl LeaseId {
     /// The id of this text, or `None` exactly where it has none or more than 512 bytes.
-    pub fn new(text: String) -> Option<Self>
-        ensures bounds { IsSome result ↔ IsIdText (string_bytes text) }
-        ensures value { IfSome result (λ id. id ≡ string_bytes text) }
+    pub fn new(text: ArcStr) -> Option<Self>
+        ensures bounds { IsSome result ↔ IsIdText (arc_str_bytes text) }
+        ensures value { IfSome result (λ id. id ≡ arc_str_bytes text) }
     {
         let length = text.as_str().len();
         if length == 0 || length > MOST_ID_BYTES {
@@ -151,11 +166,22 @@ impl LeaseId {
         self.text.as_str()
     }
 
-    /// An equal id.
-    pub fn copy(&self, alloc: Global) -> Result<Self, AllocError>
+    /// An equal id, over the same text: it takes no memory, and fails only where the count of owners is full.
+    pub fn copy(&self, _alloc: Global) -> Result<Self, AllocError>
         ensures { IfOk result (λ other. other ≡ self.now) }
     {
-        let text = String::from_str(alloc, self.text.as_str())?;
+        self.clone()
+    }
+}
+
+impl Clone for LeaseId {
+    ghost use Rattle.std.specs.Prelude.{◌≡◌};
+
+    ghost is_clone = { λ a b. b ≡ a };
+
+    fn clone(&self) -> Result<LeaseId, AllocError> {
+        let _bounds = self.as_str();
+        let text = self.text.clone()?;
         Ok(LeaseId { text })
     }
 }

@@ -3,18 +3,23 @@
 #![tactic(auto)]
 
 mod bad_op;
+mod batches;
 mod decoding;
 mod encoding;
 mod ids;
+mod index_name;
 mod kinds;
 mod operation;
 mod texts;
 
 pub use bad_op::BadOp;
-pub use decoding::decode;
+pub use batches::{Batch, copy_ops};
+pub use decoding::{decode, measure};
 pub use encoding::encode;
-pub use ids::{DocId, LeaseId};
-pub use operation::{Kind, Op};
+pub use ids::{DocId, LeaseId, MOST_ID_BYTES};
+pub use index_name::IndexName;
+pub use kinds::{ROUTED_DELETE, ROUTED_INDEX};
+pub use operation::{Kind, LEAST_SOURCE_BYTES, MOST_SOURCE_BYTES, Op};
 pub use texts::{Body, Name};
 
 /// A number of operations that come before a place: the least sequence number that is not yet there.
@@ -29,3 +34,5 @@ pub type Millis = u64;
 
 #[cfg(test)]
 mod tests;
+#[cfg(test)]
+mod text_tests;

@@ -23,7 +23,7 @@ pub struct PartSize {
 }
 
 /// Places in a list of parts, in the order of picking.
-#[derive(Drop)]
+#[derive(Debug, Drop)]
 pub struct Picks {
     places: Vec<usize>,
 }

@@ -9,3 +9,4 @@ pub mod Reading
 pub mod Sides
 pub mod Sorting
 pub mod TreeFalls
+pub mod Keys

@@ -9,6 +9,8 @@ use std::marker::Model;
 #[derive(Debug, Drop)]
 pub struct Hit {
     pub id: DocId,
+    /// The text by which it is routed in place of the id.
+    pub routing: Option<DocId>,
     pub body: Body,
 }
 
@@ -18,8 +20,15 @@ impl Hit {
         ensures { IfOk result (λ other. other ≡ self.now) }
     {
         let id = self.id.copy(alloc)?;
+        let routing = match &self.routing {
+            Some(routing) => {
+                let routing = routing.copy(alloc)?;
+                Some(routing)
+            }
+            None => None,
+        };
         let body = self.body.copy(alloc)?;
-        Ok(Hit { id, body })
+        Ok(Hit { id, routing, body })
     }
 }
 
@@ -63,6 +72,13 @@ impl ShardAnswer {
         ensures { result.now ≡ self.now.hits }
     {
         self.hits.as_slice()
+    }
+
+    /// The hits, with their memory.
+    pub fn into_vec(self) -> Vec<Hit>
+        ensures { result.items ≡ self.hits }
+    {
+        self.hits
     }
 
     /// An equal answer.

@@ -6,6 +6,7 @@
 mod answers;
 mod conditions;
 mod counting;
+mod keys;
 mod queries;
 mod reading;
 mod sorting;
@@ -24,6 +25,7 @@ mod tests {
     use ccr_op::{Body, DocId, Name};
     use std::alloc::Global;
     use std::cmp::Ordering;
+    use std::sync::ArcStr;
     use std::test::Fail;
 
     const DOCUMENT: &str = "{\"n\":[1,5],\"o\":{\"t\":\"Red apple-pie\"},\"y\":true,\"z\":null}";
@@ -159,7 +161,7 @@ mod tests {
     #[test]
     fn keys_sort_by_least_or_greatest_and_missing_values_last(rt: HostRuntime) -> Result<(), Fail> {
         let alloc = rt.alloc();
-        let field = Name::new(String::from_str(alloc, "k")?);
+        let field = Name::new(ArcStr::from_str(alloc, "k")?);
         let ascending = SortKey {
             field: field.copy(alloc)?,
             order: SortOrder::Asc,
@@ -206,10 +208,11 @@ mod tests {
     #[test]
     fn an_answer_keeps_its_hits(rt: HostRuntime) -> Result<(), Fail> {
         let alloc = rt.alloc();
-        let id = DocId::new(String::from_str(alloc, "a")?).ok_or("an id")?;
-        let body = Body::new(String::from_str(alloc, "{}")?);
+        let id = DocId::new(ArcStr::from_str(alloc, "a")?).ok_or("an id")?;
+        let body = Body::new(ArcStr::from_str(alloc, "{}")?);
         let mut hits = Vec::new(alloc);
-        hits.push(Hit { id, body })?;
+        let routing = DocId::new(ArcStr::from_str(alloc, "r")?);
+        hits.push(Hit { id, routing, body })?;
         let answer = ShardAnswer::new(3, true, hits).copy(alloc)?;
         assert_eq!(rt; answer.count(), 3);
         assert!(rt; answer.gap());

@@ -15,6 +15,7 @@ use ccr_doc::{BadSource, Scalar, parse};
 use ccr_op::Name;
 use serde_json::{Map, Value};
 use std::alloc::{AllocError, AllocFailed, Global};
+use std::sync::ArcStr;
 use thiserror::Error;
 
 /// How many lists of queries may stand inside one another.
@@ -53,7 +54,7 @@ impl<T: Drop> From<AllocFailed<T>> for BadQuery {
     }
 }
 
-fn only(value: &Value) -> Option<(&str, &Value)>
+pub(crate) fn only(value: &Value) -> Option<(&str, &Value)>
     ensures { option_map (λ p. (p.0.now, view p.1.now)) result ≡ only_of (view value.now) }
 {
     let mut members = value.as_object()?.iter();
@@ -71,7 +72,7 @@ fn read_scalar(alloc: Global, value: &Value) -> Result<Option<Scalar>, AllocErro
         Value::Bool(truth) => Ok(Some(Scalar::Truth(*truth))),
         Value::Number(number) => Ok(number.as_i64().map(Scalar::Number)),
         Value::String(text) => {
-            let text = Name::new(text.clone()?);
+            let text = Name::new(ArcStr::from_str(alloc, text.as_str())?);
             Ok(Some(Scalar::Text(text)))
         }
         _ => Ok(None),
@@ -100,7 +101,7 @@ fn read_term(alloc: Global, value: &Value) -> Found
     let Some(value) = read_scalar(alloc, value)? else {
         return Ok(None);
     };
-    let field = Name::new(String::from_str(alloc, field)?);
+    let field = Name::new(ArcStr::from_str(alloc, field)?);
     Ok(Some(Condition::Term { field, value }))
 }
 
@@ -113,8 +114,8 @@ fn read_match(alloc: Global, value: &Value) -> Found
     let Some(text) = value.as_str() else {
         return Ok(None);
     };
-    let field = Name::new(String::from_str(alloc, field)?);
-    let text = Name::new(String::from_str(alloc, text)?);
+    let field = Name::new(ArcStr::from_str(alloc, field)?);
+    let text = Name::new(ArcStr::from_str(alloc, text)?);
     Ok(Some(Condition::Match { field, text }))
 }
 
@@ -127,8 +128,8 @@ fn read_prefix(alloc: Global, value: &Value) -> Found
     let Some(text) = value.as_str() else {
         return Ok(None);
     };
-    let field = Name::new(String::from_str(alloc, field)?);
-    let text = Name::new(String::from_str(alloc, text)?);
+    let field = Name::new(ArcStr::from_str(alloc, field)?);
+    let text = Name::new(ArcStr::from_str(alloc, text)?);
     Ok(Some(Condition::Prefix { field, text }))
 }
 
@@ -144,7 +145,7 @@ fn read_exists(alloc: Global, value: &Value) -> Found
     let Some(field) = value.as_str() else {
         return Ok(None);
     };
-    let field = Name::new(String::from_str(alloc, field)?);
+    let field = Name::new(ArcStr::from_str(alloc, field)?);
     Ok(Some(Condition::Exists { field }))
 }
 
@@ -202,7 +203,7 @@ fn read_bounds(alloc: Global, field: &str, value: &Value) -> Found
     if !are_bounds(members_in(value), &gte, &gt, &lte, &lt) {
         return Ok(None);
     }
-    let field = Name::new(String::from_str(alloc, field)?);
+    let field = Name::new(ArcStr::from_str(alloc, field)?);
     Ok(Some(Condition::Range {
         field,
         gte,
@@ -323,6 +324,15 @@ impl Query {
             Err(_) => return Err(BadQuery::NotJson),
         };
         read_query(alloc, &value, MOST_LEVELS)
+    }
+
+    /// The query that a value is, or the first cause for which it is none. Takes time by its size.
+    pub fn from_value(alloc: Global, value: &Value) -> Result<Query, BadQuery>
+        ensures ok { IfOk result (λ query. query_of 32 (view value.now) ≡ Ok query) }
+        ensures err { IfErr result (λ e. e ≢ BadQuery.Memory
+            → query_of 32 (view value.now) ≡ Err e) }
+    {
+        read_query(alloc, value, MOST_LEVELS)
     }
 }
 

@@ -6,6 +6,7 @@ use Rattle.serde_json.specs.Data.{Data, Members, no_members, member}
 use Rattle.serde_json.specs.Read.{read}
 use Rattle.serde_json.specs.Find.{get, as_str, as_bool, as_number, as_object, as_u64, as_i64}
 use Rattle.serde_json.specs.Written.{compact_text}
+use Rattle.ccr_op.specs.Operation.{most_source_bytes}
 use Rattle.ccr_world.specs.declared.events.Side.{Side}
 use Rattle.ccr_world.specs.declared.events.Side.TheVariants as side
 use Rattle.ccr_run.specs.declared.commands.Command.{Command}
@@ -82,7 +83,7 @@ id_at d = option_and_then id_of (text_at (codes "id") d)
 -- a document's source: the compact text of an object of whole numbers, of at most 524,288 bytes
 unfoldable pub source_of : Data → Option (List ℕ)
 source_of d =
-    if option_map_or are_whole (as_object d) false && nat_le (length (compact_text d)) 524288
+    if option_map_or are_whole (as_object d) false && nat_le (length (compact_text d)) most_source_bytes
     then Some (compact_text d)
     else None
 

@@ -1,5 +1,5 @@
 //! The commands that a line of a script may hold.
-ghost use Rattle.std.specs.Prelude.{◌≡◌, ◌≢◌, Some, None, Ok, Err, IfOk, IfErr, IfSome, map, option_map, string_bytes, false};
+ghost use Rattle.std.specs.Prelude.{◌≡◌, ◌≢◌, Some, None, Ok, Err, IfOk, IfErr, IfSome, map, option_map, false};
 ghost use Rattle.std.specs.Option.{option_map_or};
 ghost use Rattle.std.specs.List.{list_any};
 ghost use Rattle.std.specs.Str.{bytes_eq};
@@ -10,14 +10,12 @@ ghost use Rattle.ccr_op.specs.Operation.{IsSourceText};
 ghost use Rattle.ccr_run.specs.Commands.{command_of, is_blank, value_of, text_at, number_at, number_or, truth_or, side_of, side_at, has_fields, are_whole, id_of, id_at, source_of, source_at, named_command, write_of, wake_of, deliver_of, write_number_of, apply_of, written_of, search_of};
 
 use crate::bad_lines::BadLine;
-use ccr_op::{Body, DocId};
+use ccr_op::{Body, DocId, MOST_SOURCE_BYTES};
 use ccr_world::{Side, WriteRequest};
 use serde_json::Value;
 use std::alloc::{AllocError, Global};
 use std::str;
-
-/// The most bytes that the compact text of a source has.
-const MOST_SOURCE_BYTES: usize = 524_288;
+use std::sync::ArcStr;
 
 /// The numbers in a command are below this one: 2^53.
 const NUMBER_BOUND: u64 = 9_007_199_254_740_992;
@@ -303,16 +301,16 @@ fn id_at(alloc: Global, value: &Value) -> Result<Option<DocId>, AllocError>
     let Some(text) = text_at(value, "id") else {
         return Ok(None);
     };
-    let owned = String::from_str(alloc, text)?;
-    Ok(id_of(owned))
+    id_of(alloc, text)
 }
 
 /// The id of this text.
 #[tactic(auto, unfolding(crate::specs::Commands::id_of))]
-fn id_of(text: String) -> Option<DocId>
-    ensures { result ≡ id_of (string_bytes text) }
+fn id_of(alloc: Global, text: &str) -> Result<Option<DocId>, AllocError>
+    ensures { IfOk result (λ id. id ≡ id_of text.now) }
 {
-    DocId::new(text)
+    let shared = ArcStr::from_str(alloc, text)?;
+    Ok(DocId::new(shared))
 }
 
 /// The document's source in the value.
@@ -339,7 +337,8 @@ fn source_of(alloc: Global, value: &Value) -> Result<Option<Body>, AllocError>
     if text.as_str().len() > MOST_SOURCE_BYTES {
         return Ok(None);
     }
-    Ok(Some(Body::new(text)))
+    let exact = ArcStr::from_str(alloc, text.as_str())?;
+    Ok(Some(Body::new(exact)))
 }
 
 /// Whether the value is an object whose members are all whole numbers of 64 bits with a sign.

@@ -5,6 +5,7 @@ use crate::printed::{answer_line, bad_line_text};
 use ccr_op::{Body, DocId};
 use ccr_world::{Heard, Hit, Hits, Refusal, Reply, ShardAnswer, Side, WriteResult, Wrote};
 use std::alloc::{AllocError, Global};
+use std::sync::ArcStr;
 use std::test::Fail;
 
 // Each line has what is read, a bar, and the line of the script.
@@ -170,8 +171,8 @@ fn prints_refusals(rt: HostRuntime) -> Result<(), Fail> {
 fn answer_of(alloc: Global, count: u64, ids: &str) -> Result<ShardAnswer, AllocError> {
     let mut hits = Vec::new(alloc);
     for id in ids.split_whitespace() {
-        if let Some(id) = DocId::new(String::from_str(alloc, id)?) {
-            let body = Body::new(String::from_str(alloc, "{}")?);
+        if let Some(id) = DocId::new(ArcStr::from_str(alloc, id)?) {
+            let body = Body::new(ArcStr::from_str(alloc, "{}")?);
             hits.push(Hit { id, body })?;
         }
     }

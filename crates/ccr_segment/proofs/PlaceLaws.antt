@@ -1,7 +1,7 @@
 -- The index of a segment: how it grows as operations are read, and what stands at a place.
 use Rattle.std.proofs.Common.{◌≡◌, ℕ, zero, suc, ◌+◌, ◌-◌, ◌<◌, ◌≤◌, Bool, true, false, cond, eqb, ltb, List, [], ◌∷◌, ◌++◌, length, drop, get_or, Option, Some, None, Result, Ok, Err, refl, sym, ap, subst, ◌∙◌, append_assoc, arith, inl, inr, eq-eqb}
-use Rattle.std.specs.Prelude.{find, slice_get}
-use Rattle.std.specs.List.{flat_map, AllByRecursion, AllWithin}
+use Rattle.std.specs.Prelude.{find, slice_get, not, ◌&&◌, ◌||◌}
+use Rattle.std.specs.List.{flat_map, list_any, AllByRecursion, AllWithin}
 use Rattle.std.specs.List.Sorted.{IsNonDecreasingBy}
 use Rattle.std.specs.Ordering.{nat_cmp, ordering_index}
 use Rattle.std.specs.declared.cmp.Ordering.{Ordering}
@@ -9,131 +9,248 @@ use Rattle.std.specs.declared.cmp.Ordering.TheVariants.{Less, Equal, Greater}
 use Rattle.std.proofs.lemmas.Bool.{eqb-true, ne_eqb, le-ltb, cases_lt, lt-ltb}
 use Rattle.std.proofs.lemmas.List.{append-nil, drop_at, length-append}
 use Rattle.std.proofs.lemmas.List.Concat.{flat_map-cons}
-use Rattle.ccr_op.specs.Operation.{Operation, HasSpelling as OpHasSpelling}
+use Rattle.ccr_op.specs.Operation.{Operation, is_routed, HasSpelling as OpHasSpelling}
 use Rattle.ccr_op.specs.declared.operation.Kind.TheVariants.{NoOp}
 use Rattle.ccr_op.specs.Fields.{◌>>=◌}
 use Rattle.ccr_op.specs.Spelling.{spelling as op_spelling}
-use Rattle.ccr_op.specs.Reading.{operation_at}
+use Rattle.ccr_op.specs.declared.bad_op.BadOp.{BadOp}
+use Rattle.ccr_op.specs.Reading.{operation_at, measured}
 use Rattle.ccr_op.proofs.FieldLaws.{IsBytes, chosen, ok_is}
-use Rattle.ccr_op.proofs.OperationLaws.{operation_again}
-use Rattle.ccr_segment.proofs.SegmentLaws.{header, segment_takes}
+use Rattle.ccr_op.proofs.OperationLaws.{operation_takes, operation_again}
+use Rattle.ccr_segment.proofs.SegmentLaws.{header, finish, begins_as, segment_takes}
 use Rattle.ccr_segment.specs.declared.index.Place.{Place}
 use Rattle.ccr_segment.specs.declared.bad_segment.BadSegment.{BadSegment}
 use Rattle.ccr_segment.specs.declared.bad_segment.BadSegment.TheVariants as faults
-use Rattle.ccr_segment.specs.Segment.{AscendsFrom, HasSpelling, spelling}
-use Rattle.ccr_segment.specs.Reading.{Fails, op_at, ops_at, rest_of, segment_of}
+use Rattle.ccr_segment.specs.Segment.{AscendsFrom, HasSpelling, version_for, version_of, spelling}
+use Rattle.ccr_segment.specs.Reading.{Fails, op_fault, begins_routed, operation_in, in_order, op_at, ops_at, rest_of, segment_of}
 use Rattle.ccr_segment.specs.Index.{places_of, seen, told, IsOpened, read_or_none, ops_in}
 
 -- ---- reading one after the other, as a loop does
 
--- the places so far, and those of what is still read
-abbrev pub with_front : List Place → ℕ → Result (List Operation × List ℕ) BadSegment → Result (List Place × List ℕ) BadSegment
-with_front front start read = seen (λ x. (front ++ places_of start x.0, x.1)) read
+or_regroup : (a b c : Bool) → (a || (b || c)) ≡ ((a || b) || c)
+or_regroup true b c = refl
+or_regroup false b c = refl
 
-abbrev pub total : ℕ → List ℕ → Result (List Place × List ℕ) BadSegment
-total number bytes = with_front [] 9 (ops_at 0 number bytes)
+or_nothing : (a : Bool) → (a || false) ≡ a
+or_nothing true = refl
+or_nothing false = refl
 
-regroup : (front : List Place) (start : ℕ) (op : Operation) (read : Result (List Operation × List ℕ) BadSegment)
-    → with_front front start (read >>= λ x. Ok (op ∷ x.0, x.1)) ≡ with_front (front ++ (record { seq = op.seq; start = start }) ∷ []) (start + length (op_spelling op)) read
-regroup front start op (Ok x) = ap (λ (ps : List Place). Ok (ps, x.1)) (simp append_assoc)
-regroup front start op (Err e) = refl
+-- the places so far with those of what is still read, and whether one of all has a routing
+abbrev pub with_front : List Place → Bool → ℕ → Result (List Operation × List ℕ) BadSegment → Result (List Place × Bool × List ℕ) BadSegment
+with_front front routed start read = seen (λ x. (front ++ places_of start x.0, routed || list_any is_routed x.0, x.1)) read
 
-ops_step : (least n : ℕ) (bytes : List ℕ) → ops_at least (suc n) bytes ≡ (op_at least bytes >>= λ first. ops_at (first.0.seq + 1) n first.1 >>= λ others. Ok (first.0 ∷ others.0, others.1))
+abbrev pub total : ℕ → ℕ → List ℕ → Result (List Place × Bool × List ℕ) BadSegment
+total version number bytes = with_front [] false 9 (ops_at version 0 number bytes)
+
+regroup : (front : List Place) (routed : Bool) (start : ℕ) (op : Operation) (read : Result (List Operation × List ℕ) BadSegment)
+    → with_front front routed start (read >>= λ x. Ok (op ∷ x.0, x.1)) ≡ with_front (front ++ (record { seq = op.seq; start = start }) ∷ []) (routed || is_routed op) (start + length (op_spelling op)) read
+regroup front routed start op (Ok x) =
+    ap (λ (ps : List Place). Ok (ps, routed || (is_routed op || list_any is_routed x.0), x.1)) (simp append_assoc)
+    ∙ ap (λ (b : Bool). Ok ((front ++ (record { seq = op.seq; start = start }) ∷ []) ++ places_of (start + length (op_spelling op)) x.0, b, x.1)) (or_regroup routed (is_routed op) (list_any is_routed x.0))
+regroup front routed start op (Err e) = refl
+
+ops_step : (version least n : ℕ) (bytes : List ℕ) → ops_at version least (suc n) bytes ≡ (op_at version least bytes >>= λ first. ops_at version (first.0.seq + 1) n first.1 >>= λ others. Ok (first.0 ∷ others.0, others.1))
 unfolding ops_at
-ops_step least n bytes = refl
+ops_step version least n bytes = refl
 
-pub goes_on : (front : List Place) (start least count i : ℕ) (bytes : List ℕ) (op : Operation) (after : List ℕ) (size : ℕ) (all : Result (List Place × List ℕ) BadSegment) → i < count → op_at least bytes ≡ Ok (op, after) → size ≡ length (op_spelling op)
-    → with_front front start (ops_at least (count - i) bytes) ≡ all → with_front (front ++ (record { seq = op.seq; start = start }) ∷ []) (start + size) (ops_at (op.seq + 1) (count - (i + 1)) after) ≡ all
+pub goes_on : (front : List Place) (routed : Bool) (version start least count i : ℕ) (bytes : List ℕ) (op : Operation) (after : List ℕ) (size : ℕ) (all : Result (List Place × Bool × List ℕ) BadSegment) → i < count → op_at version least bytes ≡ Ok (op, after) → size ≡ length (op_spelling op)
+    → with_front front routed start (ops_at version least (count - i) bytes) ≡ all → with_front (front ++ (record { seq = op.seq; start = start }) ∷ []) (routed || is_routed op) (start + size) (ops_at version (op.seq + 1) (count - (i + 1)) after) ≡ all
 unfolding ops_at
-goes_on front start least count i bytes op after size all lt h size-is so_far =
+goes_on front routed version start least count i bytes op after size all lt h size-is so_far =
     let k : count - i ≡ suc (count - (i + 1)) = omega arith in
-    let one : with_front front start (ops_at least (count - i) bytes) ≡ with_front (front ++ (record { seq = op.seq; start = start }) ∷ []) (start + length (op_spelling op)) (ops_at (op.seq + 1) (count - (i + 1)) after) = rw (k, h) (regroup front start op (ops_at (op.seq + 1) (count - (i + 1)) after)) in
-    ap (λ (n : ℕ). with_front (front ++ (record { seq = op.seq; start = start }) ∷ []) (start + n) (ops_at (op.seq + 1) (count - (i + 1)) after)) size-is ∙ sym one ∙ so_far
+    let one : with_front front routed start (ops_at version least (count - i) bytes) ≡ with_front (front ++ (record { seq = op.seq; start = start }) ∷ []) (routed || is_routed op) (start + length (op_spelling op)) (ops_at version (op.seq + 1) (count - (i + 1)) after) = rw (k, h) (regroup front routed start op (ops_at version (op.seq + 1) (count - (i + 1)) after)) in
+    ap (λ (n : ℕ). with_front (front ++ (record { seq = op.seq; start = start }) ∷ []) (routed || is_routed op) (start + n) (ops_at version (op.seq + 1) (count - (i + 1)) after)) size-is ∙ sym one ∙ so_far
 
 -- a fault of an operation is what reading all gives
-fault_of : (e : BadSegment) {Y : Type 0} (front : List Place) (start : ℕ) (one : Result Y BadSegment) (k : Y → Result (List Operation × List ℕ) BadSegment) (all : Result (List Place × List ℕ) BadSegment)
-    → Fails e one → with_front front start (one >>= k) ≡ all → Fails e all
-fault_of faults.Memory front start one k all h so_far = tt
-fault_of faults.Short front start one k all h so_far = sym so_far ∙ ap (λ r. with_front front start (r >>= k)) h
-fault_of faults.Magic front start one k all h so_far = sym so_far ∙ ap (λ r. with_front front start (r >>= k)) h
-fault_of faults.Version front start one k all h so_far = sym so_far ∙ ap (λ r. with_front front start (r >>= k)) h
-fault_of faults.Order front start one k all h so_far = sym so_far ∙ ap (λ r. with_front front start (r >>= k)) h
-fault_of faults.Op front start one k all h so_far = sym so_far ∙ ap (λ r. with_front front start (r >>= k)) h
-fault_of faults.Trailing front start one k all h so_far = sym so_far ∙ ap (λ r. with_front front start (r >>= k)) h
+fault_of : (e : BadSegment) {Y : Type 0} (front : List Place) (routed : Bool) (start : ℕ) (one : Result Y BadSegment) (k : Y → Result (List Operation × List ℕ) BadSegment) (all : Result (List Place × Bool × List ℕ) BadSegment)
+    → Fails e one → with_front front routed start (one >>= k) ≡ all → Fails e all
+fault_of faults.Memory front routed start one k all h so_far = tt
+fault_of faults.Short front routed start one k all h so_far = sym so_far ∙ ap (λ r. with_front front routed start (r >>= k)) h
+fault_of faults.Magic front routed start one k all h so_far = sym so_far ∙ ap (λ r. with_front front routed start (r >>= k)) h
+fault_of faults.Version front routed start one k all h so_far = sym so_far ∙ ap (λ r. with_front front routed start (r >>= k)) h
+fault_of faults.Order front routed start one k all h so_far = sym so_far ∙ ap (λ r. with_front front routed start (r >>= k)) h
+fault_of faults.Op front routed start one k all h so_far = sym so_far ∙ ap (λ r. with_front front routed start (r >>= k)) h
+fault_of faults.Trailing front routed start one k all h so_far = sym so_far ∙ ap (λ r. with_front front routed start (r >>= k)) h
+fault_of faults.NoRouting front routed start one k all h so_far = sym so_far ∙ ap (λ r. with_front front routed start (r >>= k)) h
 
 -- and what reading the rest of the segment gives
-fails_through : (e : BadSegment) (r : Result (List Operation × List ℕ) BadSegment) (k : List Operation × List ℕ → Result (List Operation) BadSegment) → Fails e (with_front [] 9 r) → Fails e (seen (places_of 9) (r >>= k))
+fails_through : (e : BadSegment) (r : Result (List Operation × List ℕ) BadSegment) (k : List Operation × List ℕ → Result (List Operation) BadSegment) → Fails e (with_front [] false 9 r) → Fails e (seen (places_of 9) (r >>= k))
 fails_through faults.Memory r k h = tt
-fails_through faults.Short (Err d) k h = ap (λ (x : Result (List Place × List ℕ) BadSegment). x >>= λ y. Ok y.0) h
+fails_through faults.Short (Err d) k h = ap (λ (x : Result (List Place × Bool × List ℕ) BadSegment). x >>= λ y. Ok y.0) h
 fails_through faults.Short (Ok x) k h = absurd cc
-fails_through faults.Magic (Err d) k h = ap (λ (x : Result (List Place × List ℕ) BadSegment). x >>= λ y. Ok y.0) h
+fails_through faults.Magic (Err d) k h = ap (λ (x : Result (List Place × Bool × List ℕ) BadSegment). x >>= λ y. Ok y.0) h
 fails_through faults.Magic (Ok x) k h = absurd cc
-fails_through faults.Version (Err d) k h = ap (λ (x : Result (List Place × List ℕ) BadSegment). x >>= λ y. Ok y.0) h
+fails_through faults.Version (Err d) k h = ap (λ (x : Result (List Place × Bool × List ℕ) BadSegment). x >>= λ y. Ok y.0) h
 fails_through faults.Version (Ok x) k h = absurd cc
-fails_through faults.Order (Err d) k h = ap (λ (x : Result (List Place × List ℕ) BadSegment). x >>= λ y. Ok y.0) h
+fails_through faults.Order (Err d) k h = ap (λ (x : Result (List Place × Bool × List ℕ) BadSegment). x >>= λ y. Ok y.0) h
 fails_through faults.Order (Ok x) k h = absurd cc
-fails_through faults.Op (Err d) k h = ap (λ (x : Result (List Place × List ℕ) BadSegment). x >>= λ y. Ok y.0) h
+fails_through faults.Op (Err d) k h = ap (λ (x : Result (List Place × Bool × List ℕ) BadSegment). x >>= λ y. Ok y.0) h
 fails_through faults.Op (Ok x) k h = absurd cc
-fails_through faults.Trailing (Err d) k h = ap (λ (x : Result (List Place × List ℕ) BadSegment). x >>= λ y. Ok y.0) h
+fails_through faults.Trailing (Err d) k h = ap (λ (x : Result (List Place × Bool × List ℕ) BadSegment). x >>= λ y. Ok y.0) h
 fails_through faults.Trailing (Ok x) k h = absurd cc
+fails_through faults.NoRouting (Err d) k h = ap (λ (x : Result (List Place × Bool × List ℕ) BadSegment). x >>= λ y. Ok y.0) h
+fails_through faults.NoRouting (Ok x) k h = absurd cc
 
 no_entry : Operation × List ℕ
 no_entry = (record { seq = 0; term = 0; version = 0; kind = NoOp }, [])
 
-told_ok : (r : Result (Operation × List ℕ) BadSegment) (seq size : ℕ) (after : List ℕ) → seen told r ≡ Ok (seq, size, after) → (op : Operation) × (r ≡ Ok (op, after)) × (op.seq ≡ seq) × (size ≡ length (op_spelling op))
-told_ok (Ok x) seq size after e =
-    let same : (x.0.seq, length (op_spelling x.0), x.1) ≡ (seq, size, after) = ok_is {E = BadSegment} (x.0.seq, length (op_spelling x.0), x.1) (seq, size, after) e in
-    (x.0, ap (λ (t : ℕ × ℕ × List ℕ). Ok (x.0, t.2)) same, ap (λ (t : ℕ × ℕ × List ℕ). t.0) same, sym (ap (λ (t : ℕ × ℕ × List ℕ). t.1) same))
-told_ok (Err d) seq size after e = absurd cc
+-- what was told of an operation
+pub record IsTold (r : Result (Operation × List ℕ) BadSegment) (seq size : ℕ) (routed : Bool) (after : List ℕ) : Type 0 where
+  pub op : Operation
+  pub read : r ≡ Ok (op, after)
+  pub seq-is : op.seq ≡ seq
+  pub size-is : size ≡ length (op_spelling op)
+  pub routed-is : is_routed op ≡ routed
+
+told_ok : (r : Result (Operation × List ℕ) BadSegment) (seq size : ℕ) (routed : Bool) (after : List ℕ) → seen told r ≡ Ok (seq, size, routed, after) → IsTold r seq size routed after
+told_ok (Ok x) seq size routed after e =
+    let same : (let y : ℕ × ℕ × Bool × List ℕ = (x.0.seq, length (op_spelling x.0), is_routed x.0, x.1) in y ≡ (seq, size, routed, after)) = ok_is {E = BadSegment} (x.0.seq, length (op_spelling x.0), is_routed x.0, x.1) (seq, size, routed, after) e in
+    record {
+      op = x.0;
+      read = ap (λ (t : ℕ × ℕ × Bool × List ℕ). Ok (x.0, t.3)) same;
+      seq-is = ap (λ (t : ℕ × ℕ × Bool × List ℕ). t.0) same;
+      size-is = sym (ap (λ (t : ℕ × ℕ × Bool × List ℕ). t.1) same);
+      routed-is = ap (λ (t : ℕ × ℕ × Bool × List ℕ). t.2) same;
+    }
+told_ok (Err d) seq size routed after e = absurd cc
 
 told_fails : (e : BadSegment) (r : Result (Operation × List ℕ) BadSegment) → Fails e (seen told r) → Fails e r
 told_fails faults.Memory r h = tt
-told_fails faults.Short (Err d) h = ap (λ (x : Result (ℕ × ℕ × List ℕ) BadSegment). x >>= λ y. Ok no_entry) h
+told_fails faults.Short (Err d) h = ap (λ (x : Result (ℕ × ℕ × Bool × List ℕ) BadSegment). x >>= λ y. Ok no_entry) h
 told_fails faults.Short (Ok x) h = absurd cc
-told_fails faults.Magic (Err d) h = ap (λ (x : Result (ℕ × ℕ × List ℕ) BadSegment). x >>= λ y. Ok no_entry) h
+told_fails faults.Magic (Err d) h = ap (λ (x : Result (ℕ × ℕ × Bool × List ℕ) BadSegment). x >>= λ y. Ok no_entry) h
 told_fails faults.Magic (Ok x) h = absurd cc
-told_fails faults.Version (Err d) h = ap (λ (x : Result (ℕ × ℕ × List ℕ) BadSegment). x >>= λ y. Ok no_entry) h
+told_fails faults.Version (Err d) h = ap (λ (x : Result (ℕ × ℕ × Bool × List ℕ) BadSegment). x >>= λ y. Ok no_entry) h
 told_fails faults.Version (Ok x) h = absurd cc
-told_fails faults.Order (Err d) h = ap (λ (x : Result (ℕ × ℕ × List ℕ) BadSegment). x >>= λ y. Ok no_entry) h
+told_fails faults.Order (Err d) h = ap (λ (x : Result (ℕ × ℕ × Bool × List ℕ) BadSegment). x >>= λ y. Ok no_entry) h
 told_fails faults.Order (Ok x) h = absurd cc
-told_fails faults.Op (Err d) h = ap (λ (x : Result (ℕ × ℕ × List ℕ) BadSegment). x >>= λ y. Ok no_entry) h
+told_fails faults.Op (Err d) h = ap (λ (x : Result (ℕ × ℕ × Bool × List ℕ) BadSegment). x >>= λ y. Ok no_entry) h
 told_fails faults.Op (Ok x) h = absurd cc
-told_fails faults.Trailing (Err d) h = ap (λ (x : Result (ℕ × ℕ × List ℕ) BadSegment). x >>= λ y. Ok no_entry) h
+told_fails faults.Trailing (Err d) h = ap (λ (x : Result (ℕ × ℕ × Bool × List ℕ) BadSegment). x >>= λ y. Ok no_entry) h
 told_fails faults.Trailing (Ok x) h = absurd cc
+told_fails faults.NoRouting (Err d) h = ap (λ (x : Result (ℕ × ℕ × Bool × List ℕ) BadSegment). x >>= λ y. Ok no_entry) h
+told_fails faults.NoRouting (Ok x) h = absurd cc
 
-pub ends : (e : BadSegment) (front : List Place) (start least count i : ℕ) (rest bytes : List ℕ) → i < count → Fails e (seen told (op_at least rest))
-    → with_front front start (ops_at least (count - i) rest) ≡ total count bytes → Fails e (seen (places_of 9) (rest_of count bytes))
+pub ends : (e : BadSegment) (front : List Place) (routed : Bool) (version start least count i : ℕ) (rest bytes : List ℕ) → i < count → Fails e (seen told (op_at version least rest))
+    → with_front front routed start (ops_at version least (count - i) rest) ≡ total version count bytes → Fails e (seen (places_of 9) (rest_of version count bytes))
 unfolding rest_of
-ends e front start least count i rest bytes lt h so_far =
+ends e front routed version start least count i rest bytes lt h so_far =
     let k : count - i ≡ suc (count - (i + 1)) = omega arith in
-    let all = fault_of e front start (op_at least rest) (λ first. ops_at (first.0.seq + 1) (count - (i + 1)) first.1 >>= λ others. Ok (first.0 ∷ others.0, others.1)) (total count bytes) (told_fails e (op_at least rest) h)
-    (ap (with_front front start) (sym (ops_step least (count - (i + 1)) rest)) ∙ ap (λ (m : ℕ). with_front front start (ops_at least m rest)) (sym k) ∙ so_far) in
-    fails_through e (ops_at 0 count bytes) (λ ops. cond (eqb (length ops.1) 0) (Ok ops.0) (Err faults.Trailing)) all
+    let all = fault_of e front routed start (op_at version least rest) (λ first. ops_at version (first.0.seq + 1) (count - (i + 1)) first.1 >>= λ others. Ok (first.0 ∷ others.0, others.1)) (total version count bytes) (told_fails e (op_at version least rest) h)
+    (ap (with_front front routed start) (sym (ops_step version least (count - (i + 1)) rest)) ∙ ap (λ (m : ℕ). with_front front routed start (ops_at version least m rest)) (sym k) ∙ so_far) in
+    fails_through e (ops_at version 0 count bytes) (finish version) all
 
-pub tells_on : (front : List Place) (start least count i : ℕ) (bytes : List ℕ) (seq size : ℕ) (after : List ℕ) (all : Result (List Place × List ℕ) BadSegment) → i < count → seen told (op_at least bytes) ≡ Ok (seq, size, after)
-    → with_front front start (ops_at least (count - i) bytes) ≡ all → with_front (front ++ (record { seq = seq; start = start }) ∷ []) (start + size) (ops_at (seq + 1) (count - (i + 1)) after) ≡ all
-tells_on front start least count i bytes seq size after all lt h so_far =
-    let t = told_ok (op_at least bytes) seq size after h in
-    subst (λ (n : ℕ). with_front (front ++ (record { seq = n; start = start }) ∷ []) (start + size) (ops_at (n + 1) (count - (i + 1)) after) ≡ all) t.2 (goes_on front start least count i bytes t.0 after size all lt t.1 t.3 so_far)
+pub tells_on : (front : List Place) (routed : Bool) (version start least count i : ℕ) (bytes : List ℕ) (seq size : ℕ) (has_routing : Bool) (after : List ℕ) (all : Result (List Place × Bool × List ℕ) BadSegment) → i < count → seen told (op_at version least bytes) ≡ Ok (seq, size, has_routing, after)
+    → with_front front routed start (ops_at version least (count - i) bytes) ≡ all → with_front (front ++ (record { seq = seq; start = start }) ∷ []) (routed || has_routing) (start + size) (ops_at version (seq + 1) (count - (i + 1)) after) ≡ all
+tells_on front routed version start least count i bytes seq size has_routing after all lt h so_far =
+    let t = told_ok (op_at version least bytes) seq size has_routing after h in
+    subst (λ (b : Bool). with_front (front ++ (record { seq = seq; start = start }) ∷ []) (routed || b) (start + size) (ops_at version (seq + 1) (count - (i + 1)) after) ≡ all) t.routed-is
+    (subst (λ (n : ℕ). with_front (front ++ (record { seq = n; start = start }) ∷ []) (routed || is_routed t.op) (start + size) (ops_at version (n + 1) (count - (i + 1)) after) ≡ all) t.seq-is (goes_on front routed version start least count i bytes t.op after size all lt t.read t.size-is so_far))
 
-seen_guard : (b : Bool) (ops : List Operation) → seen (places_of 9) (cond b (Ok ops) (Err faults.Trailing)) ≡ cond b (Ok (places_of 9 ops)) (Err faults.Trailing)
-seen_guard true ops = refl
-seen_guard false ops = refl
+-- how the loop ends
+abbrev pub finished : ℕ → List Place → Bool → List ℕ → Result (List Place) BadSegment
+finished version places routed rest = cond (not (eqb (length rest) 0)) (Err faults.Trailing) (cond (eqb version (version_for routed)) (Ok places) (Err faults.NoRouting))
 
-guarded : (r : Result (List Operation × List ℕ) BadSegment) (places : List Place) (rest : List ℕ) → with_front [] 9 r ≡ Ok (places, rest)
-    → seen (places_of 9) (r >>= λ ops. cond (eqb (length ops.1) 0) (Ok ops.0) (Err faults.Trailing)) ≡ cond (eqb (length rest) 0) (Ok places) (Err faults.Trailing)
-guarded (Ok x) places rest e =
-    let same : (places_of 9 x.0, x.1) ≡ (places, rest) = ok_is {E = BadSegment} (places_of 9 x.0, x.1) (places, rest) e in
-    seen_guard (eqb (length x.1) 0) x.0 ∙ ap (λ (y : List Place × List ℕ). cond (eqb (length y.1) 0) (let r : Result (List Place) BadSegment = Ok y.0 in r) (Err faults.Trailing)) same
-guarded (Err d) places rest e = absurd cc
+seen_guard : (trailing fitting : Bool) (ops : List Operation)
+    → seen (places_of 9) (cond trailing (Err faults.Trailing) (cond fitting (Ok ops) (Err faults.NoRouting))) ≡ cond trailing (Err faults.Trailing) (cond fitting (Ok (places_of 9 ops)) (Err faults.NoRouting))
+seen_guard true fitting ops = refl
+seen_guard false true ops = refl
+seen_guard false false ops = refl
 
-pub is_done : (front : List Place) (start least count i : ℕ) (rest bytes : List ℕ) → count ≤ i → with_front front start (ops_at least (count - i) rest) ≡ total count bytes
-    → seen (places_of 9) (rest_of count bytes) ≡ cond (eqb (length rest) 0) (Ok front) (Err faults.Trailing)
+guarded : (version : ℕ) (r : Result (List Operation × List ℕ) BadSegment) (places : List Place) (routed : Bool) (rest : List ℕ) → with_front [] false 9 r ≡ Ok (places, routed, rest)
+    → seen (places_of 9) (r >>= finish version) ≡ finished version places routed rest
+guarded version (Ok x) places routed rest e =
+    let same : (let y : List Place × Bool × List ℕ = (places_of 9 x.0, list_any is_routed x.0, x.1) in y ≡ (places, routed, rest)) = ok_is {E = BadSegment} (places_of 9 x.0, list_any is_routed x.0, x.1) (places, routed, rest) e in
+    seen_guard (not (eqb (length x.1) 0)) (eqb version (version_of x.0)) x.0 ∙ ap (λ (y : List Place × Bool × List ℕ). finished version y.0 y.1 y.2) same
+guarded version (Err d) places routed rest e = absurd cc
+
+pub is_done : (front : List Place) (routed : Bool) (version start least count i : ℕ) (rest bytes : List ℕ) → count ≤ i → with_front front routed start (ops_at version least (count - i) rest) ≡ total version count bytes
+    → seen (places_of 9) (rest_of version count bytes) ≡ finished version front routed rest
 unfolding rest_of ops_at
-is_done front start least count i rest bytes le so_far =
+is_done front routed version start least count i rest bytes le so_far =
     let k : count - i ≡ 0 = omega arith in
-    let one : with_front front start (ops_at least (count - i) rest) ≡ Ok (front, rest) = rw k (ap (λ (ps : List Place). Ok (ps, rest)) (append-nil front)) in
-    guarded (ops_at 0 count bytes) front rest (sym so_far ∙ one)
+    let one : with_front front routed start (ops_at version least (count - i) rest) ≡ Ok (front, routed, rest) =
+    rw k (ap (λ (ps : List Place). Ok (ps, routed || false, rest)) (append-nil front) ∙ ap (λ (b : Bool). Ok (front, b, rest)) (or_nothing routed)) in
+    guarded version (ops_at version 0 count bytes) front routed rest (sym so_far ∙ one)
+
+-- ---- the next operation, by its measure
+
+pub record IsMeasured (bytes : List ℕ) (seq size : ℕ) : Type 0 where
+  pub op : Operation
+  pub read : operation_at bytes ≡ Ok (op, drop size bytes)
+  pub seq-is : op.seq ≡ seq
+  pub size-is : length (op_spelling op) ≡ size
+  pub within : size ≤ length bytes
+  pub routed : begins_routed bytes ≡ is_routed op
+
+measured_from : (bytes : List ℕ) (r : Result (Operation × List ℕ) BadOp) (seq size : ℕ) → IsBytes bytes → operation_at bytes ≡ r → measured r ≡ Ok (seq, size) → IsMeasured bytes seq size
+measured_from bytes (Ok x) seq size fits read e =
+    let same : (let y : ℕ × ℕ = (x.0.seq, length (op_spelling x.0)) in y ≡ (seq, size)) = ok_is {E = BadOp} (x.0.seq, length (op_spelling x.0)) (seq, size) e in
+    let size-is : length (op_spelling x.0) ≡ size = ap (λ (y : ℕ × ℕ). y.1) same in
+    let parts = (operation_takes bytes x fits read).0.parts in
+    let rest-is : drop size bytes ≡ x.1 = ap (drop size) parts ∙ drop_at (op_spelling x.0) x.1 size size-is in
+    record {
+      op = x.0;
+      read = read ∙ ap (λ (rest : List ℕ). Ok (x.0, rest)) (sym rest-is);
+      seq-is = ap (λ (y : ℕ × ℕ). y.0) same;
+      size-is = size-is;
+      within = omega (arith, ap length parts, length-append (op_spelling x.0) x.1, size-is);
+      routed = ap begins_routed parts ∙ begins_as x.0 x.1;
+    }
+measured_from bytes (Err d) seq size fits read e = absurd cc
+
+pub is_measured : (bytes : List ℕ) (seq size : ℕ) → IsBytes bytes → measured (operation_at bytes) ≡ Ok (seq, size) → IsMeasured bytes seq size
+is_measured bytes seq size fits e = measured_from bytes (operation_at bytes) seq size fits refl e
+
+pub of_not_false : (b : Bool) → not b ≡ false → b ≡ true
+of_not_false true e = refl
+of_not_false false e = absurd cc
+
+pub of_not_true : (b : Bool) → not b ≡ true → b ≡ false
+of_not_true false e = refl
+of_not_true true e = absurd cc
+
+-- an operation that its version bars
+pub next_barred : (version least : ℕ) (bytes : List ℕ) → (eqb version 1 && begins_routed bytes) ≡ true → seen told (op_at version least bytes) ≡ Err faults.Op
+unfolding op_at
+next_barred version least bytes barred = rw barred refl
+
+measured_fault : (r : Result (Operation × List ℕ) BadOp) (e : BadOp) → measured r ≡ Err e → r ≡ Err e
+measured_fault (Ok x) e h = absurd cc
+measured_fault (Err d) e h = ap (λ (m : Result (ℕ × ℕ) BadOp). m >>= λ y. Ok no_entry) h
+
+fails_as : (e : BadSegment) (read : Result (ℕ × ℕ × Bool × List ℕ) BadSegment) → read ≡ Err e → Fails e read
+fails_as faults.Memory read h = tt
+fails_as faults.Magic read h = h
+fails_as faults.Version read h = h
+fails_as faults.Short read h = h
+fails_as faults.Order read h = h
+fails_as faults.Op read h = h
+fails_as faults.Trailing read h = h
+fails_as faults.NoRouting read h = h
+
+-- an operation that cannot be read
+pub next_fault : (version least : ℕ) (bytes : List ℕ) (e : BadOp) → (eqb version 1 && begins_routed bytes) ≡ false → measured (operation_at bytes) ≡ Err e → Fails (op_fault e) (seen told (op_at version least bytes))
+unfolding op_at
+next_fault version least bytes e open_to h =
+    let read : operation_at bytes ≡ Err e = measured_fault (operation_at bytes) e h in
+    fails_as (op_fault e) (seen told (in_order least (operation_in version bytes))) (rw (open_to, read) refl)
+
+-- an operation whose number is too low
+pub next_low : (version least : ℕ) (bytes : List ℕ) (seq size : ℕ) → IsBytes bytes → (eqb version 1 && begins_routed bytes) ≡ false → measured (operation_at bytes) ≡ Ok (seq, size) → ltb seq least ≡ true
+    → seen told (op_at version least bytes) ≡ Err faults.Order
+unfolding op_at
+next_low version least bytes seq size fits open_to h low =
+    let m = is_measured bytes seq size fits h in
+    rw (open_to, m.read, m.seq-is, low) refl
+
+-- an operation that stands next
+pub next_is : (version least : ℕ) (bytes : List ℕ) (seq size : ℕ) → IsBytes bytes → (eqb version 1 && begins_routed bytes) ≡ false → measured (operation_at bytes) ≡ Ok (seq, size) → ltb seq least ≡ false
+    → seen told (op_at version least bytes) ≡ Ok (seq, size, begins_routed bytes, drop size bytes)
+unfolding op_at
+next_is version least bytes seq size fits open_to h high =
+    let m = is_measured bytes seq size fits h in
+    rw (open_to, m.read, m.seq-is, high, m.size-is, m.routed) (ap (λ (n : ℕ). Ok (n, size, is_routed m.op, drop size bytes)) m.seq-is)
 
 opened_by : (bytes : List ℕ) (places : List Place) (r : Result (List Operation) BadSegment) → segment_of bytes ≡ r → seen (places_of 9) r ≡ Ok places → IsOpened bytes places
 opened_by bytes places (Ok ops) q e =
@@ -155,7 +272,7 @@ pub record StandsAt (ops : List Operation) (bytes : List ℕ) (place : Place) (i
   pub within : place.start ≤ length bytes
   pub fits : OpHasSpelling op
 
-no_place : Place
+abbrev pub no_place : Place
 no_place = record { seq = 0; start = 0 }
 
 pub StandsAt-found : (ops : List Operation) (front : List ℕ) (start i : ℕ) (d : Place) → length front ≡ start → i < length (places_of start ops) → AllByRecursion OpHasSpelling ops
@@ -311,22 +428,43 @@ pub record IsHit (bytes : List ℕ) (start n : ℕ) : Type 0 where
   pub read : operation_at (drop start bytes) ≡ Ok (op, rest)
   pub found : find (λ o. eqb o.seq n) (ops_in bytes) ≡ Some op
 
-pub opened_at : (bytes : List ℕ) (places : List Place) (n at : ℕ) (d : Place) → IsBytes bytes → IsOpened bytes places → at < length places → (get_or places at d).seq ≡ n → IsHit bytes (get_or places at d).start n
-opened_at bytes places n at d fits opened lt number =
+-- at a place an operation begins, and it is the one that stands there among the operations
+pub record IsNth (bytes : List ℕ) (place : Place) (at : ℕ) : Type 0 where
+  pub op : Operation
+  pub rest : List ℕ
+  pub number : place.seq ≡ op.seq
+  pub within : place.start ≤ length bytes
+  pub read : operation_at (drop place.start bytes) ≡ Ok (op, rest)
+  pub item : slice_get (ops_in bytes) at ≡ Some op
+
+pub opened_nth : (bytes : List ℕ) (places : List Place) (at : ℕ) (d : Place) → IsBytes bytes → IsOpened bytes places → at < length places → IsNth bytes (get_or places at d) at
+opened_nth bytes places at d fits opened lt =
     let h = opened_fits bytes places fits opened in
     let place-is : get_or places at d ≡ get_or (places_of 9 (ops_in bytes)) at d = ap (λ (ps : List Place). get_or ps at d) opened.indexed in
     let below : at < length (places_of 9 (ops_in bytes)) = subst (λ (ps : List Place). at < length ps) opened.indexed lt in
-    let hit = StandsAt-found (ops_in bytes) (header (length (ops_in bytes))) 9 at d refl below h.0.each in
+    let hit = StandsAt-found (ops_in bytes) (header (version_of (ops_in bytes)) (length (ops_in bytes))) 9 at d refl below h.0.each in
     let stands = hit.2 in
     let start = (get_or (places_of 9 (ops_in bytes)) at d).start in
     let spelled : drop start bytes ≡ op_spelling hit.0 ++ hit.1 = ap (drop start) h.1 ∙ stands.spelled in
-    subst (λ (place : Place). IsHit bytes place.start n) (sym place-is) (record {
+    subst (λ (place : Place). IsNth bytes place at) (sym place-is) (record {
       op = hit.0;
       rest = hit.1;
+      number = stands.number;
       within = subst (λ (b : List ℕ). start ≤ length b) (sym h.1) stands.within;
       read = ap operation_at spelled ∙ operation_again hit.0 hit.1 stands.fits;
-      found = find-at 0 (ops_in bytes) at n hit.0 h.0.order stands.item (sym stands.number ∙ ap (λ (place : Place). place.seq) (sym place-is) ∙ number);
+      item = stands.item;
     })
+
+pub opened_at : (bytes : List ℕ) (places : List Place) (n at : ℕ) (d : Place) → IsBytes bytes → IsOpened bytes places → at < length places → (get_or places at d).seq ≡ n → IsHit bytes (get_or places at d).start n
+opened_at bytes places n at d fits opened lt number =
+    let nth = opened_nth bytes places at d fits opened lt in
+    record {
+      op = nth.op;
+      rest = nth.rest;
+      within = nth.within;
+      read = nth.read;
+      found = find-at 0 (ops_in bytes) at n nth.op (opened_fits bytes places fits opened).0.order nth.item (sym nth.number ∙ number);
+    }
 
 pub opened_absent : (bytes : List ℕ) (places : List Place) (n : ℕ) → IsOpened bytes places → ((k : ℕ) (d : Place) → 0 ≤ k → k < length places → (get_or places k d).seq ≡ n → ⊥) → find (λ o. eqb o.seq n) (ops_in bytes) ≡ None
 opened_absent bytes places n opened absent =

@@ -1,6 +1,6 @@
 -- Where in a segment's bytes each of its operations begins.
-use Rattle.std.specs.Prelude.{◌≡◌, ℕ, ◌+◌, List, [], ◌∷◌, length, Option, Some, None, Result, Ok, Err}
-use Rattle.ccr_op.specs.Operation.{Operation}
+use Rattle.std.specs.Prelude.{◌≡◌, ℕ, ◌+◌, Bool, List, [], ◌∷◌, length, Option, Some, None, Result, Ok, Err}
+use Rattle.ccr_op.specs.Operation.{Operation, is_routed}
 use Rattle.ccr_op.specs.Spelling.{spelling as op_spelling}
 use Rattle.ccr_segment.specs.declared.index.Place.{Place}
 use Rattle.ccr_segment.specs.declared.bad_segment.BadSegment.{BadSegment}
@@ -35,6 +35,6 @@ abbrev pub least_after : Option ℕ → ℕ
 least_after None = 0
 least_after (Some seq) = seq + 1
 
--- what an operation tells the index, with the bytes after it: its number, and how many bytes it takes
-abbrev pub told : Operation × List ℕ → ℕ × ℕ × List ℕ
-told x = (x.0.seq, length (op_spelling x.0), x.1)
+-- what an operation tells the index, with the bytes after it: its number, how many bytes it takes, and whether it has a routing
+abbrev pub told : Operation × List ℕ → ℕ × ℕ × Bool × List ℕ
+told x = (x.0.seq, length (op_spelling x.0), is_routed x.0, x.1)

@@ -1,3 +1,4 @@
+use ccr_op::BadOp;
 use std::alloc::{AllocError, AllocFailed};
 use thiserror::Error;
 
@@ -8,7 +9,7 @@ pub enum BadSegment {
     /// One of the first four bytes is not that of `CCRS`.
     #[error("the bytes do not begin as a segment does")]
     Magic,
-    /// The version is not 1.
+    /// The version is neither 1 nor 2.
     #[error("the segment has an unknown version")]
     Version,
     /// The bytes end inside the header or inside an operation.
@@ -23,9 +24,28 @@ pub enum BadSegment {
     /// Bytes stand behind the last operation.
     #[error("bytes stand behind the last operation")]
     Trailing,
+    /// The version is 2, and no operation has a routing.
+    #[error("the segment is of the version with routings and has none")]
+    NoRouting,
     /// Memory ran out.
     #[error("out of memory")]
     Memory,
+}
+
+/// An operation that ends early makes the segment end early, and one with another fault cannot be read.
+impl From<BadOp> for BadSegment {
+    ghost use Rattle.std.specs.Prelude.{◌≡◌};
+    ghost use Rattle.ccr_segment.specs.Reading.{op_fault};
+
+    ghost from_gives = { λ fault e. e ≡ op_fault fault };
+
+    fn from(fault: BadOp) -> BadSegment {
+        match fault {
+            BadOp::Short => BadSegment::Short,
+            BadOp::Kind | BadOp::Length | BadOp::Utf8 => BadSegment::Op,
+            BadOp::Memory => BadSegment::Memory,
+        }
+    }
 }
 
 impl From<AllocError> for BadSegment {

@@ -6,6 +6,7 @@ mod bad_segment;
 mod index;
 mod reading;
 mod segment;
+mod versions;
 mod writing;
 
 pub use bad_segment::BadSegment;

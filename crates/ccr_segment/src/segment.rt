@@ -1,4 +1,4 @@
-ghost use Rattle.std.specs.Prelude.{◌≡◌, ℕ, ◌≢◌, List, length, drop, find, ◌==◌, ◌<◌, ◌≤◌, slice_index, IfOk, IsOk, MatchOption, Ok};
+ghost use Rattle.std.specs.Prelude.{◌≡◌, ℕ, ◌≢◌, List, length, drop, find, slice_get, ◌==◌, ◌<◌, ◌≤◌, slice_index, IfOk, IsOk, MatchOption, Ok};
 ghost use Rattle.ccr_op.specs.Operation.{Operation};
 ghost use Rattle.std.specs.List.{AllWithin, HoldsAt};
 ghost use Rattle.std.specs.List.Sorted.{IsNonDecreasingBy};
@@ -87,6 +87,22 @@ fn find_op(alloc: Global, bytes: &[u8], places: &[Place], n: u64) -> Result<Opti
     }
 }
 
+fn nth_op(
+    alloc: Global,
+    bytes: &[u8],
+    places: &[Place],
+    at: usize,
+) -> Result<Option<Op>, AllocError>
+    requires { IsOpened bytes.now places.now }
+    ensures { IfOk result (λ found. found ≡ slice_get (ops_in bytes.now) at) }
+{
+    if at >= places.len() {
+        return Ok(None);
+    }
+    let op = op_from(alloc, bytes, places[at].start)?;
+    Ok(Some(op))
+}
+
 impl Segment {
     /// The segment that the bytes spell, all of the bytes. This reads each operation once, in time with the
     /// length of the bytes. The index grows as operations are read, never by the number that the header
@@ -124,6 +140,19 @@ impl Segment {
         let bytes = self.bytes.as_slice();
         know_bytes(bytes);
         bytes
+    }
+
+    /// The operation at a place in their order, from 0, or `None` past the last one. This reads that operation
+    /// alone, so a walk over all of them reads each once.
+    pub fn nth(&self, alloc: Global, at: u32) -> Result<Option<Op>, AllocError>
+        ensures { IfOk result (λ found. found ≡ slice_get self.now at) }
+    {
+        nth_op(
+            alloc,
+            self.bytes.as_slice(),
+            self.places.as_slice(),
+            at as usize,
+        )
     }
 
     /// The operation of a number, or `None` exactly where it has none. This finds the place by halving, and

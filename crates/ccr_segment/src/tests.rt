@@ -9,6 +9,12 @@ const BYTES: [u8; 48] = [
     0, 0, 0, 0, 0, 1, 0, 1, 0x61, 0, 0, 0, 7, 0x7b, 0x22, 0x6e, 0x22, 0x3a, 0x31, 0x7d,
 ];
 
+/// The same with the routing `r`.
+const ROUTED: [u8; 51] = [
+    0x43, 0x43, 0x52, 0x53, 2, 0, 0, 0, 1, 4, 0, 0, 0, 0, 0, 0, 0, 0, 0, 0, 0, 0, 0, 0, 0, 1, 0, 0,
+    0, 0, 0, 0, 0, 1, 0, 1, 0x61, 0, 1, 0x72, 0, 0, 0, 7, 0x7b, 0x22, 0x6e, 0x22, 0x3a, 0x31, 0x7d,
+];
+
 /// A segment without operations.
 const EMPTY: [u8; 9] = [0x43, 0x43, 0x52, 0x53, 1, 0, 0, 0, 0];
 
@@ -29,6 +35,7 @@ fn answer(alloc: Global, bytes: &[u8]) -> Result<&'static str, Fail> {
         Err(BadSegment::Order) => "order",
         Err(BadSegment::Op) => "op",
         Err(BadSegment::Trailing) => "trailing",
+        Err(BadSegment::NoRouting) => "no routing",
         Err(BadSegment::Memory) => "memory",
     })
 }
@@ -40,6 +47,10 @@ fn a_segment_has_the_stated_bytes(rt: HostRuntime) -> Result<(), Fail> {
     assert_eq!(rt; write(rt.alloc(), &[])?.as_slice(), EMPTY.as_slice());
     ops.push(op)?;
     assert_eq!(rt; write(rt.alloc(), &ops)?.as_slice(), BYTES.as_slice());
+    let (op, _) = ccr_op::decode(rt.alloc(), &ROUTED[9..])?;
+    let mut ops = Vec::new(rt.alloc());
+    ops.push(op)?;
+    assert_eq!(rt; write(rt.alloc(), &ops)?.as_slice(), ROUTED.as_slice());
     Ok(())
 }
 
@@ -57,6 +68,13 @@ fn operations_are_found_by_their_numbers(rt: HostRuntime) -> Result<(), Fail> {
             .ok_or("the operation is there")?;
         assert_eq!(rt; op.term(), term);
     }
+    for (at, term) in [(0, 1), (1, 2), (2, 3)] {
+        let op = segment
+            .nth(rt.alloc(), at)?
+            .ok_or("the operation is there")?;
+        assert_eq!(rt; op.term(), term);
+    }
+    assert!(rt; segment.nth(rt.alloc(), 3)?.is_none());
     for seq in [0, 3, 6] {
         assert!(rt; segment.op_at(rt.alloc(), seq)?.is_none());
     }
@@ -76,7 +94,21 @@ fn the_first_bad_field_is_named(rt: HostRuntime) -> Result<(), Fail> {
     bytes[4] = 3;
     assert_eq!(rt; answer(rt.alloc(), &bytes)?, "version");
     let mut bytes = BYTES;
-    bytes[9] = 4;
+    bytes[4] = 2;
+    assert_eq!(rt; answer(rt.alloc(), &bytes)?, "no routing");
+    let mut longer = Vec::from_slice(rt.alloc(), &bytes)?;
+    longer.push(0)?;
+    assert_eq!(rt;
+        answer(rt.alloc(), &longer)?,
+        "trailing",
+        "before the routing"
+    );
+    let mut bytes = ROUTED;
+    bytes[4] = 1;
+    assert_eq!(rt; answer(rt.alloc(), &bytes)?, "op", "a routing in version 1");
+    assert_eq!(rt; answer(rt.alloc(), &ROUTED)?, "ok");
+    let mut bytes = BYTES;
+    bytes[9] = 6;
     assert_eq!(rt; answer(rt.alloc(), &bytes)?, "op");
     assert_eq!(rt; answer(rt.alloc(), &TWICE)?, "order");
     Ok(())

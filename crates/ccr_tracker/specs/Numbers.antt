@@ -1,5 +1,5 @@
 -- A set of numbers, kept as its least absent number and the numbers above that.
-use Rattle.std.specs.Prelude.{◌≡◌, ℕ, ◌+◌, ◌-◌, ◌^◌, ◌<◌, ◌≤◌, ◌==◌, ◌||◌, Bool, true, false, nat_lt, min, max, List, [], ◌∷◌, filter, if◌then◌else◌}
+use Rattle.std.specs.Prelude.{◌≡◌, ℕ, ◌+◌, ◌-◌, ◌^◌, ◌<◌, ◌≤◌, ◌==◌, ◌||◌, Bool, true, false, nat_lt, min, max, List, [], ◌∷◌, filter, map, if◌then◌else◌, Option, Some, None}
 use Rattle.std.specs.List.{list_any}
 use Rattle.std.specs.Ordering.{nat_cmp}
 use Rattle.std.specs.BTreeSet.{insert_key}
@@ -61,6 +61,29 @@ filled_below s n = risen (max s.count n) s.above
 -- the set without n and the numbers above it
 abbrev pub kept_below : Numbers → ℕ → Numbers
 kept_below s n = record { count = min s.count n; above = filter (λ k. nat_lt k n) s.above }
+
+-- the greatest of the numbers, and 0 where there is none
+abbrev pub greatest : List ℕ → ℕ
+greatest [] = 0
+greatest (n ∷ ns) = max n (greatest ns)
+
+-- the greatest number of the set and one more, and 0 where it has none
+abbrev pub end_of : Numbers → ℕ
+end_of s = greatest (s.count ∷ map {A = ℕ} {B = ℕ} (λ n. n + 1) s.above)
+
+-- the test holds of no number from `end` on, and of the number before it
+pub record IsEnd (test : ℕ → Bool) (end : ℕ) : Type 0 where
+  pub above : (k : ℕ) → end ≤ k → test k ≡ false
+  pub reached : (k : ℕ) → end ≡ k + 1 → test k ≡ true
+
+-- the least number that the first test holds of and the second does not: none where the second holds of each
+abbrev pub IsFirstLacking : (ℕ → Bool) → (ℕ → Bool) → Option ℕ → Type 0
+IsFirstLacking from held None = (k : ℕ) → from k ≡ true → held k ≡ true
+IsFirstLacking from held (Some n) = (from n ≡ true) × (held n ≡ false) × ((k : ℕ) → k < n → from k ≡ true → held k ≡ true)
+
+-- the test holds of each number from `from` on and below `to`
+abbrev pub HoldsBetween : (ℕ → Bool) → ℕ → ℕ → Type 0
+HoldsBetween test from to = (k : ℕ) → from ≤ k → k < to → test k ≡ true
 
 -- what a tracker keeps of its count and the numbers above
 pub record IsTracked (count : ℕ) (above : List ℕ) : Type 0 where

@@ -7,7 +7,7 @@
 #![tactic(auto)]
 
 ghost use Rattle.std.specs.Prelude.{◌≡◌, ℕ, ◌<◌, ◌==◌, ◌||◌, ◌&&◌, ◌↔◌, nat_lt, IsTrue, IfOk, OnOk, OnErr, if◌then◌else◌};
-ghost use Rattle.ccr_tracker.specs.Numbers.{AllBelow, HasGap, IsCanonical, IsLeastAbsent, OneForm, filled_below, has, kept_below, marked, no_numbers, risen};
+ghost use Rattle.ccr_tracker.specs.Numbers.{AllBelow, HasGap, HoldsBetween, IsCanonical, IsEnd, IsFirstLacking, IsLeastAbsent, OneForm, end_of, filled_below, has, kept_below, marked, no_numbers, risen};
 
 use std::alloc::{AllocError, Global};
 use std::collections::BTreeSet;
@@ -97,6 +97,47 @@ impl Tracker {
         !self.above.is_empty()
     }
 
+    /// One more than the greatest number of the set, and 0 where it has none.
+    pub fn end(&self) -> Count
+        ensures value { result ≡ end_of self.now }
+        ensures end { IsEnd (has self.now) result }
+    {
+        match self.above.last() {
+            Some(last) => *last + 1,
+            None => self.count,
+        }
+    }
+
+    /// The least number that the other set has and this one lacks, or `None` exactly where it lacks none.
+    /// Where this one's count is the lower one that is the answer, at once; otherwise the cost goes with the
+    /// numbers above the other's count.
+    pub fn first_lacking(&self, of: &Tracker) -> Option<u64>
+        ensures { IsFirstLacking (has of.now) (has self.now) result }
+    {
+        if self.count < of.count {
+            return Some(self.count);
+        }
+        for n in &of.above {
+            if !self.has(*n) {
+                return Some(*n);
+            }
+        }
+        None
+    }
+
+    /// Whether the set has all numbers from `from` on and below `to`. The cost goes with those of them that are
+    /// above the count.
+    pub fn has_run(&self, from: u64, to: u64) -> bool
+        ensures { IsTrue result ↔ HoldsBetween (has self.now) from to }
+    {
+        for n in from.max(self.count)..to {
+            if !self.has(n) {
+                return false;
+            }
+        }
+        true
+    }
+
     /// Adds all numbers below `n`, and no other.
     pub fn fill_below(&mut self, n: Count) -> Result<(), AllocError>
         ensures members { OnOk result ((k : ℕ) → has self.new k ≡ (has self.old k || nat_lt k n)) }
@@ -178,9 +219,33 @@ mod tests {
         assert!(rt; seen.gap());
         assert!(rt; seen.has(3));
         assert!(rt; !seen.has(1));
+        assert_eq!(rt; seen.end(), 4);
         assert_eq!(rt; seen.mark(1)?, Marked::New);
         assert_eq!(rt; seen.count(), 4);
         assert!(rt; !seen.gap());
+        Ok(())
+    }
+
+    #[test]
+    fn tells_what_another_has_more(rt: HostRuntime) -> Result<(), Fail> {
+        let mut some = Tracker::new(rt.alloc());
+        let mut more = Tracker::new(rt.alloc());
+        assert_eq!(rt; more.end(), 0);
+        assert_eq!(rt; some.first_lacking(&more), None);
+        for n in [0, 1, 2, 4, 5] {
+            more.mark(n)?;
+        }
+        assert_eq!(rt; more.end(), 6);
+        assert_eq!(rt; some.first_lacking(&more), Some(0));
+        some.fill_below(5)?;
+        assert_eq!(rt; some.first_lacking(&more), Some(5));
+        assert_eq!(rt; more.first_lacking(&some), Some(3));
+        some.mark(5)?;
+        assert_eq!(rt; some.first_lacking(&more), None);
+        assert!(rt; more.has_run(4, 6));
+        assert!(rt; !more.has_run(4, 7));
+        assert!(rt; !more.has_run(1, 5));
+        assert!(rt; more.has_run(7, 7));
         Ok(())
     }
 

@@ -4,6 +4,7 @@ use Rattle.std.specs.Option.{ok_or}
 use Rattle.std.specs.Int.{w16, w32, w64}
 use Rattle.ccr_op.specs.declared.bad_op.BadOp.{BadOp}
 use Rattle.ccr_op.specs.declared.bad_op.BadOp.TheVariants as op_faults
+use Rattle.ccr_op.specs.Ids.{most_id_bytes}
 use Rattle.ccr_op.specs.Operation.{Operation}
 use Rattle.ccr_op.specs.Reading.{operation_at}
 use Rattle.ccr_op.specs.Fields.{◌>>=◌, byte_at, number_at, bounded_at, bytes_at, bounded_text_at}
@@ -30,7 +31,7 @@ abbrev pub uuid_at : List ℕ → Result (List ℕ × List ℕ) BadFrame
 uuid_at bytes = bytes_at faults.Short 16 bytes
 
 abbrev pub id_at : List ℕ → Result (List ℕ × List ℕ) BadFrame
-id_at bytes = bounded_text_at faults.Short faults.Length faults.Field w16 1 512 bytes
+id_at bytes = bounded_text_at faults.Short faults.Length faults.Field w16 1 most_id_bytes bytes
 
 -- the size of a part of a file
 abbrev pub size_at : List ℕ → Result (ℕ × List ℕ) BadFrame

@@ -9,14 +9,11 @@ ghost use Rattle.ccr_wire.specs.Message.{NumberFits};
 ghost use Rattle.ccr_wire.specs.Reading.{Gives, u32_at, u64_at, uuid_at, id_at, size_at, chunk_at, kind_at, result_at, answered_at, op_at, ops_at, sizes_at};
 
 use crate::{BadFrame, Chunk, FrameKind, LeaseResult, Ops, Sizes};
-use ccr_op::{BadOp, LeaseId, Op};
+use ccr_op::{BadOp, LeaseId, MOST_ID_BYTES, Op};
 use std::alloc::Global;
+use std::sync::ArcStr;
 
 const UUID_BYTES: usize = 16;
-
-const LEAST_ID_BYTES: u16 = 1;
-
-const MOST_ID_BYTES: u16 = 512;
 
 const LEAST_PART_BYTES: u32 = 1;
 
@@ -139,17 +136,18 @@ fn read_id_text(bytes: &[u8]) -> Result<(&str, &[u8]), BadFrame>
     ensures bounds { IfOk result (λ x. IsIdText x.0.now) }
 {
     let (size, rest) = read_u16(bytes)?;
-    if size < LEAST_ID_BYTES || size > MOST_ID_BYTES {
+    let size = size as usize;
+    if size == 0 || size > MOST_ID_BYTES {
         return Err(BadFrame::Length);
     }
-    read_text(rest, size as usize)
+    read_text(rest, size)
 }
 
 pub fn read_id(alloc: Global, bytes: &[u8]) -> Result<(LeaseId, &[u8]), BadFrame>
     ensures { Gives (λ x. (x.0, x.1.now)) result (id_at bytes.now) }
 {
     let (text, rest) = read_id_text(bytes)?;
-    let text = String::from_str(alloc, text)?;
+    let text = ArcStr::from_str(alloc, text)?;
     match LeaseId::new(text) {
         Some(id) => Ok((id, rest)),
         None => unreachable!(),

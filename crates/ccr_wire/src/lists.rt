@@ -69,6 +69,13 @@ impl Sizes {
     {
         self.list.as_slice()
     }
+
+    /// The sizes, with their memory.
+    pub fn into_vec(self) -> Vec<u64>
+        ensures { result.items ≡ self }
+    {
+        self.list
+    }
 }
 
 /// A part of a file. Contracts see its bytes.
@@ -98,5 +105,12 @@ impl Chunk {
         ensures { result.now ≡ self.now }
     {
         self.list.as_slice()
+    }
+
+    /// The bytes, with their memory.
+    pub fn into_vec(self) -> Vec<u8>
+        ensures { result.items ≡ self }
+    {
+        self.list
     }
 }

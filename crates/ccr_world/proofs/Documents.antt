@@ -34,12 +34,12 @@ abbrev pub AreEntries : List Operation → List (List ℕ × ℕ) → Type 0
 AreEntries ops latest = AllByRecursion (IsEntry ops) latest
 
 -- what an operation about an id puts in place
-pub hit-is : (op : Operation) (hit : Hit) → hit_of op.kind ≡ Some hit → op.kind ≡ Index hit.id hit.body
+pub hit-is : (op : Operation) (hit : Hit) → hit_of op.kind ≡ Some hit → (routing : Option (List ℕ)) × (op.kind ≡ Index hit.id routing hit.body)
 hit-is op hit is = by op.kind is
   where
-    by : (k : Kind) → hit_of k ≡ Some hit → k ≡ Index hit.id hit.body
-    by (Index id body) e = let same : ◌≡◌ {A = Hit} (record { id = id; body = body }) hit = cc in ap (λ (h : Hit). Index h.id h.body) same
-    by (Delete id) e = absurd (cc)
+    by : (k : Kind) → hit_of k ≡ Some hit → (routing : Option (List ℕ)) × (k ≡ Index hit.id routing hit.body)
+    by (Index id routing body) e = let same : ◌≡◌ {A = Hit} (record { id = id; body = body }) hit = cc in (routing, ap (λ (h : Hit). Index h.id routing h.body) same)
+    by (Delete id routing) e = absurd (cc)
     by NoOp e = absurd (cc)
 
 pub about-id : (op : Operation) (q : List ℕ) → is_about q op ≡ true → id_of op.kind ≡ Some q
@@ -54,11 +54,11 @@ id-is op id q about is = (bytes_decides id q).0 (sym (about-some op id q is) ∙
 
 -- a hit at a place is found by its entry
 hit-at-entry : (ops : List Operation) (e : List ℕ × ℕ) (hit : Hit) → (entry : IsEntry ops e) → hit_at ops e.1 ≡ Some hit
-    → (entry.op.kind ≡ Index hit.id hit.body) × (hit.id ≡ e.0)
+    → (routing : Option (List ℕ)) × (entry.op.kind ≡ Index hit.id routing hit.body) × (hit.id ≡ e.0)
 hit-at-entry ops e hit entry is =
     let seen : hit_of entry.op.kind ≡ Some hit = sym (ap (option_and_then (λ (op : Operation). hit_of op.kind)) entry.at) ∙ is in
-    let puts : entry.op.kind ≡ Index hit.id hit.body = hit-is entry.op hit seen in
-    (puts, id-is entry.op hit.id e.0 (greatest-about ops e.0 entry.op entry.is) (ap id_of puts))
+    let puts = hit-is entry.op hit seen in
+    (puts.0, puts.1, id-is entry.op hit.id e.0 (greatest-about ops e.0 entry.op entry.is) (ap id_of puts.1))
 
 -- the index's entries
 
@@ -95,13 +95,13 @@ turn-none ops hits all left rest place op next so_far at is =
     let step : hits_at ops left ≡ hits_at ops rest = ap (hits_at ops) next ∙ ap (λ o. cons_option o (hits_at ops rest)) seen in
     ap (λ hs. hits ++ hs) (sym step) ∙ so_far
 
-pub not-index : (kind : Kind) → ((id body : List ℕ) → kind ≡ Index id body → ⊥) → hit_of kind ≡ None
-not-index (Index id body) other = absurd (other id body refl)
-not-index (Delete id) other = refl
+pub not-index : (kind : Kind) → ((id : List ℕ) (routing : Option (List ℕ)) (body : List ℕ) → kind ≡ Index id routing body → ⊥) → hit_of kind ≡ None
+not-index (Index id routing body) other = absurd (other id routing body refl)
+not-index (Delete id routing) other = refl
 not-index NoOp other = refl
 
-pub same-hit : (kind : Kind) (id body id' body' : List ℕ) → kind ≡ Index id body → id' ≡ id → body' ≡ body → hit_of kind ≡ Some record { id = id'; body = body' }
-same-hit kind id body id' body' is e f = ap hit_of is ∙ same id body id' body' (sym e) (sym f)
+pub same-hit : (kind : Kind) (id : List ℕ) (routing : Option (List ℕ)) (body id' body' : List ℕ) → kind ≡ Index id routing body → id' ≡ id → body' ≡ body → hit_of kind ≡ Some record { id = id'; body = body' }
+same-hit kind id routing body id' body' is e f = ap hit_of is ∙ same id body id' body' (sym e) (sym f)
   where
     same : (a b c d : List ℕ) → a ≡ c → b ≡ d → ◌≡◌ {A = Option Hit} (Some record { id = a; body = b }) (Some record { id = c; body = d })
     same a b c d g h = cc
@@ -116,7 +116,7 @@ above ops id (e ∷ es) entries keys =
     (elim (hit_at ops e.1) as (λ o. hit_at ops e.1 ≡ o → AllByRecursion (λ (hit : Hit). slice_cmp nat_cmp id hit.id ≡ Less) (cons_option o (hits_at ops (values_of es)))) [
       | None ↦ λ is. above ops id es entries.1 keys.1
       | Some hit ↦ λ is.
-          (subst (λ k. slice_cmp nat_cmp id k ≡ Less) (sym (hit-at-entry ops e hit entries.0 is).1) keys.0, above ops id es entries.1 keys.1)
+          (subst (λ k. slice_cmp nat_cmp id k ≡ Less) (sym (hit-at-entry ops e hit entries.0 is).2) keys.0, above ops id es entries.1 keys.1)
     ]) refl
 
 pub hits-ascend : (ops : List Operation) (latest : List (List ℕ × ℕ)) → AreEntries ops latest → IsStrictlySortedBy (slice_cmp nat_cmp) (keys_of latest)
@@ -128,7 +128,7 @@ hits-ascend ops (e ∷ es) entries sorted =
       | None ↦ λ is. rest
       | Some hit ↦ λ is. (
         above ops hit.id es entries.1
-            (subst (λ k. AllByRecursion (λ key. slice_cmp nat_cmp k key ≡ Less) (keys_of es)) (sym (hit-at-entry ops e hit entries.0 is).1) (sorted_head (slice_cmp nat_cmp) e.0 (keys_of es) sorted)),
+            (subst (λ k. AllByRecursion (λ key. slice_cmp nat_cmp k key ≡ Less) (keys_of es)) (sym (hit-at-entry ops e hit entries.0 is).2) (sorted_head (slice_cmp nat_cmp) e.0 (keys_of es) sorted)),
         rest,
       )
     ]) refl
@@ -138,10 +138,11 @@ hits-ascend ops (e ∷ es) entries sorted =
 bounded : (n : ℕ) (g : Option Operation) (op : Operation) → g ≡ Some op → AtLeast n g → n ≤ op.seq
 bounded n g op is least = subst (AtLeast n) is least
 
-pub greatest-live : (ops : List Operation) (op : Operation) (id body : List ℕ) → greatest_about ops id ≡ Some op → op.kind ≡ Index id body → IsLive (IsIn ops) id body
-greatest-live ops op id body is puts = record {
+pub greatest-live : (ops : List Operation) (op : Operation) (id : List ℕ) (routing : Option (List ℕ)) (body : List ℕ) → greatest_about ops id ≡ Some op → op.kind ≡ Index id routing body → IsLive (IsIn ops) id body
+greatest-live ops op id routing body is puts = record {
   op = op;
   is_in = greatest-in ops id op is;
+  routing = routing;
   puts = puts;
   greatest = λ other there own.
       let about : is_about id other ≡ true = about-some other id id own ∙ (bytes_decides id id).1 refl in
@@ -159,8 +160,8 @@ hits-live ops (e ∷ es) hit entries there =
     by : (first : Hit) → hit_at ops e.1 ≡ Some first → (IsIn (hits_at ops (values_of es)) hit → IsLive (IsIn ops) hit.id hit.body)
         → (first ≡ hit) ⊎ IsIn (hits_at ops (values_of es)) hit → IsLive (IsIn ops) hit.id hit.body
     by first is rest (inl same) =
-        let shows : (entries.0.op.kind ≡ Index hit.id hit.body) × (hit.id ≡ e.0) = hit-at-entry ops e hit entries.0 (is ∙ ap Some same) in
-        greatest-live ops entries.0.op hit.id hit.body (subst (λ k. greatest_about ops k ≡ Some entries.0.op) (sym shows.1) entries.0.is) shows.0
+        let shows = hit-at-entry ops e hit entries.0 (is ∙ ap Some same) in
+        greatest-live ops entries.0.op hit.id shows.0 hit.body (subst (λ k. greatest_about ops k ≡ Some entries.0.op) (sym shows.2) entries.0.is) shows.1
     by first is rest (inr h) = rest h
 
 -- each live document is a hit

@@ -1,6 +1,6 @@
 -- the worked examples are legal
 use Rattle.std.proofs.Common.{◌≡◌, ℕ, ◌<◌, List, [], ◌∷◌, refl, ap, subst, ◌∙◌, inl, inr, arith}
-use Rattle.std.specs.Prelude.{true, false, codes}
+use Rattle.std.specs.Prelude.{true, false, None, codes}
 use Rattle.ccr_op.specs.Operation.{Operation}
 use Rattle.ccr_op.specs.declared.operation.Kind.TheVariants.{Index}
 use Rattle.ccr_world.specs.Sets.{IsIn, IsCount, HasAbove, IsLive, IsAnswer}
@@ -25,7 +25,7 @@ no_gap above = let e : 0 ≡ above.0.seq = ap (λ (o : Operation). o.seq) (only_
 
 live_hit : (hit : Hit) → IsLive (IsIn (first_operation ∷ [])) hit.id hit.body → record { id : hit.id ≡ 97 ∷ []; body : hit.body ≡ codes "{\"n\":1}" }
 live_hit hit live =
-    let e : Index (97 ∷ []) (codes "{\"n\":1}") ≡ Index hit.id hit.body = ap (λ (o : Operation). o.kind) (only_one live.op live.is_in) ∙ live.puts in
+    let e : Index (97 ∷ []) None (codes "{\"n\":1}") ≡ Index hit.id live.routing hit.body = ap (λ (o : Operation). o.kind) (only_one live.op live.is_in) ∙ live.puts in
     record { id = cc; body = cc }
 
 same_hit : (id id' body body' : List ℕ) → id ≡ id' → body ≡ body' → (let a : Hit = record { id = id'; body = body' } in let b : Hit = record { id = id; body = body } in a ≡ b)
@@ -35,6 +35,7 @@ the_live : IsLive (IsIn (first_operation ∷ [])) (97 ∷ []) (codes "{\"n\":1}"
 the_live = record {
   op = first_operation;
   is_in = inl refl;
+  routing = None;
   puts = refl;
   greatest = λ other there about. let e : 0 ≡ other.seq = ap (λ (o : Operation). o.seq) (only_one other there) in omega arith;
 }

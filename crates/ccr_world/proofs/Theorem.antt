@@ -6,7 +6,8 @@ use Rattle.std.proofs.lemmas.Option.{slice_get_within}
 use Rattle.ccr_op.specs.Operation.{Operation}
 use Rattle.ccr_world.specs.Sets.{IsIn, IsAnswer, HasExactlyBelow}
 use Rattle.ccr_world.specs.State.{State, start_state}
-use Rattle.ccr_world.specs.Rows.{Outcome, same_operations, with_new, write_row, deliver_row, wake_row, take_row, apply_row, written_row, write_at, without_write, has_all, hears, left_in_flight, answers_read, received, next_read, ignored, refused}
+use Rattle.ccr_op.specs.Sameness.{same_operations}
+use Rattle.ccr_world.specs.Rows.{Outcome, with_new, write_row, deliver_row, wake_row, take_row, apply_row, written_row, write_at, without_write, has_all, hears, left_in_flight, answers_read, received, next_read, ignored, refused}
 use Rattle.ccr_world.specs.Step.{IsReply, IsLegal, next, IsRefusal}
 use Rattle.ccr_world.specs.Past.{Past, IsCommitted, FollowerAnswers, AnswersTruly, HoldsCommitted, Headline, past_after, start_past}
 use Rattle.ccr_wire.specs.Message.{Frame}

@@ -8,7 +8,8 @@ use Rattle.ccr_world.specs.Request.{Request}
 use Rattle.ccr_world.specs.Numbered.{IsNumbered}
 use Rattle.ccr_world.specs.Sets.{IsIn}
 use Rattle.ccr_world.specs.State.{State}
-use Rattle.ccr_world.specs.Rows.{Outcome, has_number, has_all, with_new, same_operations, written_operation, wrote_after, write_row, deliver_row, wake_row, take_row, apply_row, written_row, write_at, without_write, hears, answers_read, next_read, received, left_in_flight, ignored, refused}
+use Rattle.ccr_op.specs.Sameness.{same_operations}
+use Rattle.ccr_world.specs.Rows.{Outcome, has_number, has_all, with_new, written_operation, wrote_after, write_row, deliver_row, wake_row, take_row, apply_row, written_row, write_at, without_write, hears, answers_read, next_read, received, left_in_flight, ignored, refused}
 use Rattle.ccr_world.specs.Step.{IsReply, next}
 use Rattle.ccr_world.specs.Past.{Past, line_after, given_after}
 use Rattle.ccr_wire.specs.Message.{Frame}
@@ -25,7 +26,8 @@ use Rattle.ccr_world.specs.declared.replies.Reply.TheVariants.{Heard, Applied, D
 use Rattle.ccr_world.specs.declared.replies.Heard.TheVariants.{Done, Parked}
 use Rattle.ccr_world.specs.declared.replies.Refusal.TheVariants.{Wait, NoBatch, NotWritten}
 use Rattle.ccr_world.proofs.Members.{IsIn-left, IsIn-right, IsIn-append, place_of, IsIn-of_take, IsIn-of_drop, slice_get-append, slice_get-one_more, All-push, All-at, All-from_members, All-map, All-remove, filter_map-same}
-use Rattle.ccr_world.proofs.Sameness.{IsSameSet, same_operations-equal}
+use Rattle.ccr_op.proofs.Sameness.{same_operations-equal}
+use Rattle.ccr_world.proofs.Sameness.{IsSameSet}
 
 -- the operation is the line's of its number
 abbrev pub IsAt : List Operation → Operation → Type 0

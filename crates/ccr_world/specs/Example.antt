@@ -1,4 +1,4 @@
-use Rattle.std.specs.Prelude.{true, false, List, [], ◌∷◌, codes}
+use Rattle.std.specs.Prelude.{true, false, None, List, [], ◌∷◌, codes}
 use Rattle.ccr_op.specs.Operation.{Operation}
 use Rattle.ccr_op.specs.declared.operation.Kind.TheVariants.{Index}
 use Rattle.ccr_world.specs.declared.events.Side.TheVariants.{Follower}
@@ -10,7 +10,7 @@ use Rattle.ccr_world.specs.declared.replies.WriteResult.TheVariants.{Created}
 
 -- the write of {"n":1} under the id a
 abbrev pub first_operation : Operation
-first_operation = record { seq = 0; term = 1; version = 1; kind = Index (97 ∷ []) (codes "{\"n\":1}") }
+first_operation = record { seq = 0; term = 1; version = 1; kind = Index (97 ∷ []) None (codes "{\"n\":1}") }
 
 -- the write of it at the leader, and what that is answered
 abbrev pub first_write : Entry

@@ -35,8 +35,8 @@ pub record IsHeld (ops : List Operation) (processed : Numbers) (latest : List (L
 
 -- the document that an operation of this kind puts in place
 abbrev pub hit_of : Kind → Option Hit
-hit_of (Index id body) = Some record { id = id; body = body }
-hit_of (Delete id) = None
+hit_of (Index id routing body) = Some record { id = id; body = body }
+hit_of (Delete id routing) = None
 hit_of NoOp = None
 
 -- the document that the operation at a place puts there

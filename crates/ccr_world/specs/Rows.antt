@@ -3,6 +3,7 @@ use Rattle.std.specs.Option.{option_map_or}
 use Rattle.std.specs.List.{list_all, list_any, find}
 use Rattle.std.specs.Str.{bytes_eq}
 use Rattle.ccr_op.specs.Operation.{Operation, id_of}
+use Rattle.ccr_op.specs.Sameness.{same_operations}
 use Rattle.ccr_op.specs.declared.operation.Kind.{Kind}
 use Rattle.ccr_op.specs.declared.operation.Kind.TheVariants.{Index, Delete, NoOp}
 use Rattle.ccr_world.specs.Request.{Request}
@@ -39,7 +40,7 @@ greatest_about (op ∷ ops) id = later (if is_about id op then Some op else None
 
 -- the operation, where it puts a document in place
 abbrev pub only_index : Operation → Option Operation
-only_index op = elim op.kind as (λ _. Option Operation) [ Index id body ↦ Some op | Delete id ↦ None | NoOp ↦ None ]
+only_index op = elim op.kind as (λ _. Option Operation) [ Index id routing body ↦ Some op | Delete id routing ↦ None | NoOp ↦ None ]
 
 -- the operation that put the live document of this id in place
 abbrev pub live : List Operation → List ℕ → Option Operation
@@ -60,7 +61,7 @@ written_operation request wrote = record {
   seq = wrote.seq;
   term = wrote.term;
   version = wrote.version;
-  kind = Index request.id request.body;
+  kind = Index request.id None request.body;
 }
 
 -- some operation has this number
@@ -71,27 +72,6 @@ has_number ops n = list_any (λ op. op.seq == n) ops
 abbrev pub with_new : List Operation → List Operation → List Operation
 with_new ops [] = ops
 with_new ops (op ∷ batch) = with_new (if has_number ops op.seq then ops else ops ++ op ∷ []) batch
-
-abbrev pub same_kind : Kind → Kind → Bool
-same_kind (Index id body) (Index id' body') = bytes_eq id id' && bytes_eq body body'
-same_kind (Delete id) (Delete id') = bytes_eq id id'
-same_kind NoOp NoOp = true
-same_kind (Index id body) (Delete id') = false
-same_kind (Index id body) NoOp = false
-same_kind (Delete id) (Index id' body') = false
-same_kind (Delete id) NoOp = false
-same_kind NoOp (Index id' body') = false
-same_kind NoOp (Delete id') = false
-
-abbrev pub same_operation : Operation → Operation → Bool
-same_operation a b = (a.seq == b.seq) && (a.term == b.term) && (a.version == b.version) && same_kind a.kind b.kind
-
--- two batches have the same operations in the same order
-abbrev pub same_operations : List Operation → List Operation → Bool
-same_operations [] [] = true
-same_operations (a ∷ as') (b ∷ bs) = same_operation a b && same_operations as' bs
-same_operations [] (b ∷ bs) = false
-same_operations (a ∷ as') [] = false
 
 -- what an event is answered, and the state after it
 pub record Outcome : Type 0 where

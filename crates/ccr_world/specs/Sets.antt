@@ -1,4 +1,4 @@
-use Rattle.std.specs.Prelude.{◌≡◌, ◌⊎◌, ◌↔◌, ℕ, ◌≤◌, ◌<◌, List, [], ◌∷◌, Some, IsTrue}
+use Rattle.std.specs.Prelude.{◌≡◌, ◌⊎◌, ◌↔◌, ℕ, ◌≤◌, ◌<◌, List, [], ◌∷◌, Option, Some, IsTrue}
 use Rattle.std.specs.Ordering.{nat_cmp}
 use Rattle.std.specs.Cmp.Lexicographic.{slice_cmp}
 use Rattle.std.specs.List.{AllByRecursion}
@@ -30,11 +30,12 @@ HasAbove S c = (op : Operation) × S op × (c < op.seq)
 abbrev pub HasExactlyBelow : (Operation → Type 0) → ℕ → Type 0
 HasExactlyBelow S c = (n : ℕ) → HasNumber S n ↔ (n < c)
 
--- of the operations of a set about this id, the one of greatest number puts this source in place
+-- of the operations of a set about this id, the one of greatest number puts this source in place, with any routing
 pub record IsLive (S : Operation → Type 0) (id body : List ℕ) : Type 0 where
   pub op : Operation
   pub is_in : S op
-  pub puts : op.kind ≡ Index id body
+  pub routing : Option (List ℕ)
+  pub puts : op.kind ≡ Index id routing body
   pub greatest : (other : Operation) → S other → id_of other.kind ≡ Some id → other.seq ≤ op.seq
 
 -- the ids ascend by their bytes, and none stands twice

@@ -213,7 +213,7 @@ fn hits_of(
 {
     let mut hits = Vec::new(alloc);
     for place in latest.values() {
-        if let Kind::Index { id, body } = ops[*place].kind() {
+        if let Kind::Index { id, body, .. } = ops[*place].kind() {
             let id = id.copy(alloc)?;
             let body = body.copy(alloc)?;
             hits.push(Hit { id, body })?;

@@ -1,8 +1,7 @@
-ghost use Rattle.std.specs.Prelude.{◌≡◌, List, IfOk};
+ghost use Rattle.std.specs.Prelude.{◌≡◌, IfOk};
 ghost use Rattle.ccr_op.specs.Operation.{IsSourceText};
-ghost use Rattle.ccr_world.specs.Rows.{same_kind, same_operation, same_operations};
 
-use ccr_op::{Body, Count, DocId, Kind, Op};
+use ccr_op::{Batch, Body, Count, DocId};
 use std::alloc::{AllocError, Global};
 use std::marker::Model;
 use uuid::Uuid;
@@ -12,107 +11,6 @@ use uuid::Uuid;
 pub enum Side {
     Leader,
     Follower,
-}
-
-/// A list of operations, as a read brings them and a write takes them.
-#[derive(Debug, Drop)]
-pub struct Batch {
-    ops: Vec<Op>,
-}
-
-impl Model for Batch {
-    ghost use Rattle.std.specs.Prelude.{List};
-    ghost use Rattle.ccr_op.specs.Operation.{Operation};
-
-    ghost Value = { List Operation };
-
-    ghost view = { λ a. a.ops.items };
-}
-
-impl Batch {
-    /// The batch of these operations.
-    pub fn new(ops: Vec<Op>) -> Self
-        ensures { result ≡ ops.items }
-    {
-        Batch { ops }
-    }
-
-    /// The operations.
-    pub fn as_slice(&self) -> &[Op]
-        ensures { result.now ≡ self.now }
-    {
-        self.ops.as_slice()
-    }
-
-    /// Whether the other has the same operations in the same order.
-    pub fn is(&self, other: &Batch) -> bool
-        ensures { result ≡ same_operations self.now other.now }
-    {
-        same_ops(self.ops.as_slice(), other.ops.as_slice())
-    }
-
-    /// An equal batch.
-    pub fn copy(&self, alloc: Global) -> Result<Self, AllocError>
-        ensures { IfOk result (λ other. other ≡ self.now) }
-    {
-        let ops = copy_ops(alloc, self.ops.as_slice())?;
-        Ok(Batch { ops })
-    }
-}
-
-// Whether two operations do the same.
-fn same_kinds(a: &Kind, b: &Kind) -> bool
-    ensures { result ≡ same_kind a.now b.now }
-{
-    match (a, b) {
-        (
-            Kind::Index { id, body },
-            Kind::Index {
-                id: other,
-                body: text,
-            },
-        ) => id == other && body.is(text),
-        (Kind::Delete { id }, Kind::Delete { id: other }) => id == other,
-        (Kind::NoOp, Kind::NoOp) => true,
-        _ => false,
-    }
-}
-
-// Whether two operations are equal.
-fn same_op(a: &Op, b: &Op) -> bool
-    ensures { result ≡ same_operation a.now b.now }
-{
-    a.seq() == b.seq()
-        && a.term() == b.term()
-        && a.version() == b.version()
-        && same_kinds(a.kind(), b.kind())
-}
-
-// Whether two lists have the same operations in the same order.
-fn same_ops(a: &[Op], b: &[Op]) -> bool
-    ensures { result ≡ same_operations a.now b.now }
-{
-    if a.len() != b.len() {
-        return false;
-    }
-    for i in 0..a.len() {
-        if !same_op(&a[i], &b[i]) {
-            return false;
-        }
-    }
-    true
-}
-
-/// Equal operations, in the same order.
-pub(crate) fn copy_ops(alloc: Global, ops: &[Op]) -> Result<Vec<Op>, AllocError>
-    ensures { IfOk result (λ copies. copies.items ≡ ops.now) }
-{
-    let mut copies = Vec::with_capacity(alloc, ops.len())?;
-    for op in ops {
-        let copied = op.copy(alloc)?;
-        copies.push(copied)?;
-    }
-    Ok(copies)
 }
 
 /// What a client asks to have written: the source of the document of an id.

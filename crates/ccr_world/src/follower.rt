@@ -3,9 +3,9 @@ ghost use Rattle.ccr_world.specs.Reads.{first_read, request_of};
 ghost use Rattle.ccr_world.specs.Rows.{answers_read, has_all, next_read, received, with_new, without_write};
 
 use crate::copies::HeldOperations;
-use crate::events::{Batch, OutstandingRead, OutstandingWrite};
+use crate::events::{OutstandingRead, OutstandingWrite};
 use crate::reads;
-use ccr_op::{Count, Op};
+use ccr_op::{Batch, Count, Op};
 use ccr_wire::Message;
 use std::alloc::{AllocError, Global};
 use std::marker::Model;

@@ -5,10 +5,10 @@ ghost use Rattle.ccr_world.specs.declared.TheConstants.{MOST_READ_OPERATIONS};
 ghost use Rattle.ccr_world.specs.State.{LeaderState};
 
 use crate::copies::HeldOperations;
-use crate::events::{Poll, WriteRequest, copy_ops};
+use crate::events::{Poll, WriteRequest};
 use crate::reads::{first_read, poll_of};
 use crate::replies::{WriteResult, Wrote};
-use ccr_op::{Count, Op};
+use ccr_op::{Count, Op, copy_ops};
 use ccr_wire::{Content, Message, Ops};
 use std::alloc::{AllocError, Global};
 use std::marker::Model;
@@ -70,7 +70,7 @@ impl Leader {
         let wrote = next_write(&self.held, request)?;
         let id = request.id().copy(alloc)?;
         let body = request.body().copy(alloc)?;
-        let op = Op::index(wrote.seq, wrote.term, wrote.version, id, body);
+        let op = Op::index(wrote.seq, wrote.term, wrote.version, id, None, body);
         self.held.push(alloc, op)?;
         Ok(wrote)
     }

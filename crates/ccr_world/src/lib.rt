@@ -25,7 +25,8 @@ mod replies;
 mod shard;
 mod worlds;
 
-pub use events::{Batch, Event, OutstandingRead, OutstandingWrite, Poll, Side, WriteRequest};
+pub use ccr_op::Batch;
+pub use events::{Event, OutstandingRead, OutstandingWrite, Poll, Side, WriteRequest};
 pub use journals::{Entry, Journal};
 pub use law::{every_place, first_path_example, repeated_frame_example};
 pub use replies::{Heard, Hit, Hits, Refusal, Reply, ShardAnswer, WriteResult, Wrote};

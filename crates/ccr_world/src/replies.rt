@@ -1,7 +1,6 @@
 ghost use Rattle.std.specs.Prelude.{◌≡◌, IfOk};
 
-use crate::events::Batch;
-use ccr_op::{Body, Count, DocId, Term};
+use ccr_op::{Batch, Body, Count, DocId, Term};
 use std::alloc::{AllocError, Global};
 use std::marker::Model;
 

@@ -6,13 +6,13 @@ ghost use Rattle.ccr_world.specs.State.{State, start_state};
 ghost use Rattle.ccr_world.specs.Step.{FindsOver, IsReply, next, operations_of};
 ghost use Rattle.ccr_world.specs.declared.TheConstants.{MOST_READ_OPERATIONS};
 
-use crate::events::{Batch, Event, Poll, Side, WriteRequest};
+use crate::events::{Event, Poll, Side, WriteRequest};
 use crate::flight::Flight;
 use crate::follower::Follower;
 use crate::leader::Leader;
 use crate::replies::{Heard, Refusal, Reply};
 use bytes::Bytes;
-use ccr_op::Count;
+use ccr_op::{Batch, Count};
 use ccr_wire::{Content, Message, Ops};
 use std::alloc::{AllocError, Global};
 use std::marker::Model;

@@ -1,6 +1,7 @@
 use crate::{Event, Heard, Refusal, Reply, World, WriteRequest};
 use ccr_op::{Body, DocId};
 use std::alloc::Global;
+use std::sync::ArcStr;
 use std::test::Fail;
 use uuid::Uuid;
 
@@ -21,8 +22,8 @@ const ASK: [u8; 73] = [
 
 /// The write of the source `{"n":1}` under the id `a`.
 fn write_of_a(alloc: Global) -> Result<Event, Fail> {
-    let id = DocId::new(String::from_str(alloc, "a")?).ok_or("an id")?;
-    let body = Body::new(String::from_str(alloc, "{\"n\":1}")?);
+    let id = DocId::new(ArcStr::from_str(alloc, "a")?).ok_or("an id")?;
+    let body = Body::new(ArcStr::from_str(alloc, "{\"n\":1}")?);
     Ok(Event::Write {
         request: WriteRequest::new(id, body),
     })

@@ -1,3 +1,4 @@
+use Rattle.ccr_law_followers.proofs.MergesLeased.{keeps-leased}
 use Rattle.ccr_law_followers.proofs.Group.{group-start, group-keeps, group-rises, group-says, group-holds}
 use Rattle.ccr_law_followers.proofs.follower_copies.Goals as goal
 
@@ -15,3 +16,6 @@ returns-clause-say c = group-says
 
 pub returns-clause-hold : goal.returns-clause-hold
 returns-clause-hold c = group-holds
+
+pub returns-clause-leased : goal.returns-clause-leased
+returns-clause-leased c = keeps-leased

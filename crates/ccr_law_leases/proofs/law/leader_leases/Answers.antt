@@ -1,6 +1,6 @@
 use Rattle.ccr_model.specs.Past.{start_past, past_of}
-use Rattle.ccr_law_leases.proofs.Keeping.{leases-hold}
-use Rattle.ccr_law_leases.proofs.Saying.{leases-says}
+use Rattle.ccr_law_leases.proofs.Events.{leases-hold}
+use Rattle.ccr_law_leases.proofs.Says.{leases-says}
 use Rattle.ccr_law_leases.proofs.law.leader_leases.Goals as goal
 
 pub returns-clause-truth : goal.returns-clause-truth

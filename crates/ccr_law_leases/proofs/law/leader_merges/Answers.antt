@@ -1,4 +1,4 @@
-use Rattle.ccr_law_leases.proofs.Saying.{merges-safely}
+use Rattle.ccr_law_leases.proofs.Says.{merges-safely}
 use Rattle.ccr_law_leases.proofs.law.leader_merges.Goals as goal
 
 pub returns : goal.returns

@@ -1,4 +1,4 @@
-use Rattle.ccr_law_tasks.proofs.Stated.{says-true, says-bounded, says-once}
+use Rattle.ccr_law_tasks.proofs.TaskSays.{says-true, says-bounded, says-once}
 use Rattle.ccr_law_tasks.proofs.task.says.Goals as goal
 
 pub returns : goal.returns

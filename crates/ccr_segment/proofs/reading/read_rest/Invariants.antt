@@ -5,4 +5,4 @@ use Rattle.ccr_segment.proofs.PlaceLaws.{with_front, total}
 use Rattle.ccr_segment.proofs.reading.read_rest.Given as goal
 
 abbrev pub invariant-loop : goal.invariant-loop
-invariant-loop l = (with_front l.places.items l.start (ops_at (least_after l.before) (l.number - l.counter) l.rest) ≡ total l.number l.bytes) × (l.start + length l.rest ≡ length l.bytes + 9)
+invariant-loop l = (with_front l.places.items l.routed l.start (ops_at l.version (least_after l.before) (l.number - l.counter) l.rest) ≡ total l.version l.number l.bytes) × (l.start + length l.rest ≡ length l.bytes + 9)

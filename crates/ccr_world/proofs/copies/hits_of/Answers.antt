@@ -23,7 +23,7 @@ loop-place-preserved-in-Continue-branch-3 c =
     let read : slice_get c.args.ops.now c.in-Some.place.now ≡ Some c.index-ops-place.result =
     slice_get_read c.args.ops.now (length c.args.ops.now) c.in-Some.place.now c.index-ops-place.result refl inside.0 c.index-ops-place.is in
     let shows : hit_of c.index-ops-place.result.kind ≡ Some hit =
-    same-hit c.index-ops-place.result.kind _ _ c.in_ok-id.id c.in_ok-body.body (sym c.kind.ensures.value ∙ c.in-Index.is) c.in_ok-id.ensures c.in_ok-body.ensures in
+    same-hit c.index-ops-place.result.kind _ _ _ c.in_ok-id.id c.in_ok-body.body (sym c.kind.ensures.value ∙ c.in-Index.is) c.in_ok-id.ensures c.in_ok-body.ensures in
     record {
       found =
           ap (λ (hits : List Hit). hits ++ hits_at c.args.ops.now c.next.new.self) c.in_ok-push.ensures.items
@@ -41,6 +41,6 @@ loop-place-preserved c =
     record {
       found = turn-none c.args.ops.now c.loop-place.hits.items (hits_at c.args.ops.now (values c.args.latest.now)) c.loop-place.place-iterator c.next.new.self c.in-Some.place.now
           c.index-ops-place.result c.in-Some.ensures.steps c.loop-place.invariant.found read
-          (not-index c.index-ops-place.result.kind (λ id body is. c.in_default.not-Index id body (c.kind.ensures.value ∙ is)));
+          (not-index c.index-ops-place.result.kind (λ id routing body is. c.in_default.not-Index id routing body (c.kind.ensures.value ∙ is)));
       inside = inside.1;
     }

@@ -1,6 +1,10 @@
 use Rattle.ccr_auto.specs.Follow.{IsGap}
+use Rattle.ccr_auto.proofs.Markers.{MarksOnce-copied}
 use Rattle.ccr_auto.proofs.Ordered.{Ascend-added, Ascend-either}
 use Rattle.ccr_auto.proofs.follow.AutoFollow.put.Goals as goal
+
+pub invariant_of-entry : goal.invariant_of-entry
+invariant_of-entry c = MarksOnce-copied _ _ _ _ _ c.in-Some.ensures c.in-Ok-from_str.ensures.ok c.in-Ok-from_str-2.ensures.ok
 
 pub invariant_of-self-2 : goal.invariant_of-self-2
 invariant_of-self-2 c =

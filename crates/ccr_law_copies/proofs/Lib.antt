@@ -1,0 +1,12 @@
+pub mod Sets
+pub mod Replicas
+pub mod CopyChanges
+pub mod LeaderRows
+pub mod StaleCopies
+pub mod LeaderQuiet
+pub mod LeaderEvents
+pub mod Onward
+pub mod HistoriesApart
+pub mod Terms
+pub mod HistoryEvents
+pub mod HistorySays

@@ -1,4 +1,0 @@
-pub mod Bootstraps
-pub mod TaskCalls
-pub mod WorkRows
-pub mod EachEvent

@@ -1,0 +1,17 @@
+pub mod Lists
+pub mod Reading
+pub mod Fetching
+pub mod FollowerRows
+pub mod Growing
+pub mod Own
+pub mod LeaderNotes
+pub mod Worlds
+pub mod Places
+pub mod LeaderRows
+pub mod Deliveries
+pub mod Taking
+pub mod Joining
+pub mod Events
+pub mod Says
+pub mod Stopping
+pub mod Floors

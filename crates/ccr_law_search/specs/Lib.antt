@@ -1,2 +1,0 @@
-pub mod Searchable
-pub mod Places

@@ -1,4 +1,0 @@
-pub mod Measure
-pub mod Within
-pub mod Lowering
-pub mod Left

@@ -1,6 +1,0 @@
-pub mod Awaited
-pub mod Deliveries
-pub mod Lowers
-pub mod Nothing
-pub mod Full
-pub mod Theorem

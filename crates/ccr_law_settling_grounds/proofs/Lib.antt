@@ -1,0 +1,4 @@
+pub mod Purpose
+pub mod Count
+pub mod Wait
+pub mod Work

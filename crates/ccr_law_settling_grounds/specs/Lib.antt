@@ -1,0 +1,4 @@
+pub mod Purposes
+pub mod KnownCounts
+pub mod Parked
+pub mod Pending

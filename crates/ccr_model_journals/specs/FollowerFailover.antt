@@ -1,0 +1,41 @@
+-- A follower's primary is lost before its replica has a write's operation, and the write is applied again.
+use Rattle.std.specs.Prelude.{false, List, [], ◌∷◌, Some, None, codes}
+use Rattle.ccr_wire.specs.declared.kind.LeaseResult.TheVariants as results
+use Rattle.ccr_query.specs.Queries.{condition}
+use Rattle.ccr_query.specs.declared.conditions.Condition.TheVariants as conditions
+use Rattle.ccr_journal.specs.declared.sides.Side.TheVariants as sides
+use Rattle.ccr_journal.specs.declared.events.Event.TheVariants as events
+use Rattle.ccr_journal.specs.declared.journals.Entry.{Entry}
+use Rattle.ccr_journal.specs.declared.replies.Heard.TheVariants as heard
+use Rattle.ccr_journal.specs.declared.replies.Refusal.TheVariants as refusals
+use Rattle.ccr_journal.specs.declared.replies.Reply.TheVariants as replies
+use Rattle.ccr_journal.specs.declared.replies.WriteResult.TheVariants as written
+use Rattle.ccr_model.specs.Leaders.{Start}
+use Rattle.ccr_model_journals.specs.Words.{begun, default_params, entry, found, hit, index, request, wrote}
+
+abbrev pub follower_failover_start : Start
+follower_failover_start = begun 1 233123597930171938637576872671869459266 43200000 0
+
+abbrev pub follower_failover_entries : List Entry
+follower_failover_entries =
+    entry (events.Follow default_params 2 (codes "b/f/0d4c2c54-b543-5c37-9e34-0a9608dd1386-following-a/l/223c283b-627d-5bac-9463-bf337a05a8ea")) replies.Done ∷
+    entry (events.Deliver 0 0 false) (replies.Heard (heard.Lease results.Ok 0)) ∷
+    entry (events.Deliver 0 0 false) (replies.Heard heard.Done) ∷
+    entry (events.Deliver 0 0 false) (replies.Heard heard.Done) ∷
+    entry (events.Deliver 0 0 false) (replies.Heard heard.Done) ∷
+    entry (events.Deliver 0 0 false) (replies.Heard heard.Parked) ∷
+    entry events.Settle replies.Settled ∷
+    entry (events.Write (request (codes "a") None (Some (codes "{\"n\":1}")) false None)) (replies.Written (wrote 0 1 1 written.Created)) ∷
+    entry (events.Wake 0 0) (replies.Heard heard.Done) ∷
+    entry (events.Deliver 0 0 false) (replies.Heard heard.Done) ∷
+    entry (events.Take 0 0) (replies.Took (index 0 1 1 (codes "a") None (codes "{\"n\":1}") ∷ [])) ∷
+    entry (events.Apply 0 1 0 (index 0 1 1 (codes "a") None (codes "{\"n\":1}") ∷ [])) (replies.Applied 1) ∷
+    entry (events.Written 0 0) (replies.Refused (refusals.NotWritten 1)) ∷
+    entry (events.Search (sides.Follower 0) 1 (condition conditions.MatchAll) []) (replies.Found (found 0 false [])) ∷
+    entry (events.Promote (sides.Follower 0) 1) (replies.Promoted 2 0) ∷
+    entry (events.Search (sides.Follower 0) 1 (condition conditions.MatchAll) []) (replies.Found (found 0 false [])) ∷
+    entry (events.Take 0 0) (replies.Took (index 0 1 1 (codes "a") None (codes "{\"n\":1}") ∷ [])) ∷
+    entry (events.Apply 0 1 0 (index 0 1 1 (codes "a") None (codes "{\"n\":1}") ∷ [])) (replies.Applied 1) ∷
+    entry (events.Written 0 0) replies.Done ∷
+    entry (events.Search (sides.Follower 0) 1 (condition conditions.MatchAll) []) (replies.Found (found 1 false (hit (codes "a") None (codes "{\"n\":1}") ∷ []))) ∷
+    []

@@ -1,0 +1,57 @@
+-- A stale copy is promoted by force: a new history begins, and the follower of the old one stops.
+use Rattle.std.specs.Prelude.{false, List, [], ◌∷◌, Some, None, codes}
+use Rattle.ccr_query.specs.Queries.{condition}
+use Rattle.ccr_query.specs.declared.conditions.Condition.TheVariants as conditions
+use Rattle.ccr_journal.specs.declared.sides.Side.TheVariants as sides
+use Rattle.ccr_journal.specs.declared.sides.Phase.TheVariants as phases
+use Rattle.ccr_journal.specs.declared.events.Event.TheVariants as events
+use Rattle.ccr_journal.specs.declared.journals.Entry.{Entry}
+use Rattle.ccr_journal.specs.declared.replies.Heard.TheVariants as heard
+use Rattle.ccr_journal.specs.declared.replies.Refusal.TheVariants as refusals
+use Rattle.ccr_journal.specs.declared.replies.Reply.TheVariants as replies
+use Rattle.ccr_journal.specs.declared.replies.WriteResult.TheVariants as written
+use Rattle.ccr_model.specs.Leaders.{Start}
+use Rattle.ccr_model_journals.specs.Words.{begun, default_params, entry, found, hit, index, request, status, wrote}
+
+abbrev pub forced_promotion_start : Start
+forced_promotion_start = begun 2 233123597930171938637576872671869459266 43200000 0
+
+abbrev pub forced_promotion_entries : List Entry
+forced_promotion_entries =
+    entry (events.Follow default_params 2 (codes "b/f/0d4c2c54-b543-5c37-9e34-0a9608dd1386-following-a/l/223c283b-627d-5bac-9463-bf337a05a8ea")) replies.Done ∷
+    entry (events.Deliver 0 0 false) (replies.Heard (heard.Waiting 1)) ∷
+    entry (events.Sync sides.Leader 1) replies.Done ∷
+    entry (events.Deliver 0 0 false) (replies.Heard heard.Done) ∷
+    entry (events.Deliver 0 0 false) (replies.Heard heard.Done) ∷
+    entry (events.Deliver 0 0 false) (replies.Heard heard.Done) ∷
+    entry (events.Deliver 0 0 false) (replies.Heard heard.Parked) ∷
+    entry events.Settle replies.Settled ∷
+    entry (events.Write (request (codes "a") None (Some (codes "{\"n\":1}")) false None)) (replies.Written (wrote 0 1 1 written.Created)) ∷
+    entry (events.Replicate sides.Leader 1 0) replies.Done ∷
+    entry (events.Ack sides.Leader 1) (replies.Acked 1) ∷
+    entry (events.Sync sides.Leader 1) replies.Done ∷
+    entry (events.Wake 0 0) (replies.Heard heard.Done) ∷
+    entry (events.Deliver 0 0 false) (replies.Heard heard.Done) ∷
+    entry (events.Take 0 0) (replies.Took (index 0 1 1 (codes "a") None (codes "{\"n\":1}") ∷ [])) ∷
+    entry (events.Apply 0 1 0 (index 0 1 1 (codes "a") None (codes "{\"n\":1}") ∷ [])) (replies.Applied 1) ∷
+    entry (events.Replicate (sides.Follower 0) 1 0) replies.Done ∷
+    entry (events.Written 0 0) replies.Done ∷
+    entry (events.Ack (sides.Follower 0) 1) (replies.Acked 1) ∷
+    entry (events.Sync (sides.Follower 0) 1) replies.Done ∷
+    entry (events.Deliver 0 0 false) (replies.Heard heard.Parked) ∷
+    entry events.Settle replies.Settled ∷
+    entry (events.FailCopy sides.Leader 1) replies.Done ∷
+    entry (events.Write (request (codes "a") None (Some (codes "{\"n\":2}")) false None)) (replies.Written (wrote 1 1 2 written.Updated)) ∷
+    entry (events.ForcePromote 5) (replies.Refused (refusals.NoStale 5)) ∷
+    entry (events.ForcePromote 1) (replies.Forced 2 0) ∷
+    entry (events.Lose 0 0) replies.Done ∷
+    entry (events.Clock (sides.Follower 0) 50) replies.Done ∷
+    entry (events.Tick 0) replies.Done ∷
+    entry (events.Deliver 0 1 false) (replies.Heard heard.History) ∷
+    entry (events.Deliver 0 1 false) (replies.Heard heard.StoppedHistory) ∷
+    entry events.Settle replies.Settled ∷
+    entry (events.Search (sides.Follower 0) 0 (condition conditions.MatchAll) []) (replies.Found (found 1 false (hit (codes "a") None (codes "{\"n\":1}") ∷ []))) ∷
+    entry (events.Status (sides.Follower 0)) (replies.FollowerStatus phases.History 1 1 (status 0 1 1 0 1 ∷ status 1 1 1 0 1 ∷ []) 0 0 0) ∷
+    entry (events.Search sides.Leader 1 (condition conditions.MatchAll) []) (replies.Found (found 1 false (hit (codes "a") None (codes "{\"n\":1}") ∷ []))) ∷
+    entry (events.Unfollow 0) replies.Done ∷
+    []

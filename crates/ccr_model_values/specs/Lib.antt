@@ -1,0 +1,16 @@
+pub mod Words
+pub mod Holding
+pub mod Reading
+pub mod Waiting
+pub mod Versions
+pub mod Runs
+pub mod Merging
+pub mod Copying
+pub mod Promoting
+pub mod Telling
+pub mod Fetching
+pub mod Filling
+pub mod Following
+pub mod Worlds
+pub mod Pasts
+pub mod Queries

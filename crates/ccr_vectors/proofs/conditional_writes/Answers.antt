@@ -1,7 +1,0 @@
-use Rattle.std.specs.Prelude.{refl}
-use Rattle.ccr_vectors.proofs.Opened.{opened}
-use Rattle.ccr_vectors.proofs.conditional_writes.Goals as goal
-
-pub returns : goal.returns
-unfolding opened
-returns c = (refl, (refl, (refl, (refl, (refl, (refl, tt))))))
