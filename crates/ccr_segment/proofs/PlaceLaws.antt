@@ -1,5 +1,5 @@
 -- The index of a segment: how it grows as operations are read, and what stands at a place.
-use Rattle.std.proofs.Common.{◌≡◌, ℕ, zero, suc, ◌+◌, ◌-◌, ◌<◌, ◌≤◌, Bool, true, false, cond, eqb, ltb, List, [], ◌∷◌, ◌++◌, length, drop, get_or, Option, Some, None, Result, Ok, Err, refl, sym, ap, subst, ◌∙◌, append_assoc, arith, inl, inr, eq-eqb}
+use Rattle.std.proofs.Common.{◌≡◌, ℕ, zero, suc, ◌+◌, ◌-◌, ◌<◌, ◌≤◌, Bool, true, false, cond, eqb, ltb, List, [], ◌∷◌, ◌++◌, length, take, drop, get_or, Option, Some, None, Result, Ok, Err, refl, sym, ap, subst, ◌∙◌, append_assoc, arith, inl, inr, eq-eqb}
 use Rattle.std.specs.Prelude.{find, slice_get, not, ◌&&◌, ◌||◌}
 use Rattle.std.specs.List.{flat_map, list_any, AllByRecursion, AllWithin}
 use Rattle.std.specs.List.Sorted.{IsNonDecreasingBy}
@@ -7,7 +7,7 @@ use Rattle.std.specs.Ordering.{nat_cmp, ordering_index}
 use Rattle.std.specs.declared.cmp.Ordering.{Ordering}
 use Rattle.std.specs.declared.cmp.Ordering.TheVariants.{Less, Equal, Greater}
 use Rattle.std.proofs.lemmas.Bool.{eqb-true, ne_eqb, le-ltb, cases_lt, lt-ltb}
-use Rattle.std.proofs.lemmas.List.{append-nil, drop_at, length-append}
+use Rattle.std.proofs.lemmas.List.{append-nil, drop_at, length-append, take_more}
 use Rattle.std.proofs.lemmas.List.Concat.{flat_map-cons}
 use Rattle.ccr_op.specs.Operation.{Operation, is_routed, HasSpelling as OpHasSpelling}
 use Rattle.ccr_op.specs.declared.operation.Kind.TheVariants.{NoOp}
@@ -474,3 +474,17 @@ opened_absent bytes places n opened absent =
 
 pub rises_compared : (n : ℕ) (places : List Place) → IsNonDecreasingBy (λ (y : Place). y.seq) places → IsNonDecreasingBy (λ (y : Place). ordering_index (nat_cmp y.seq n)) places
 rises_compared n places rises = λ i j d le lt. monotone (get_or places i d).seq (get_or places j d).seq n (rises i j d le lt)
+
+-- one more of a list, as a look-up finds it
+pub take-next : (xs : List Operation) (i : ℕ) (x : Operation) → slice_get xs i ≡ Some x → take (i + 1) xs ≡ take i xs ++ x ∷ []
+take-next xs i x is = take_more xs i x (below xs i is) ∙ ap (λ (y : Operation). take i xs ++ y ∷ []) (at xs i is)
+  where
+    below : (xs : List Operation) (i : ℕ) → slice_get xs i ≡ Some x → i < length xs
+    below [] i is = absurd cc
+    below (y ∷ xs) zero is = omega arith
+    below (y ∷ xs) (suc i) is = let h : i < length xs = below xs i is in omega arith
+
+    at : (xs : List Operation) (i : ℕ) → slice_get xs i ≡ Some x → get_or xs i x ≡ x
+    at [] i is = refl
+    at (y ∷ xs) zero is = cc
+    at (y ∷ xs) (suc i) is = at xs i is

@@ -1,3 +1,4 @@
 pub mod Segment
 pub mod Reading
 pub mod Index
+pub mod Writing

@@ -5,13 +5,17 @@
 mod bad_segment;
 mod index;
 mod reading;
+mod restored;
 mod segment;
 mod versions;
+mod writer;
 mod writing;
 
 pub use bad_segment::BadSegment;
+pub use restored::{Files, Restored};
 pub use segment::Segment;
-pub use writing::write;
+pub use writer::Writer;
+pub use writing::{size, write};
 
 #[cfg(test)]
 mod tests;

@@ -103,6 +103,18 @@ fn nth_op(
     Ok(Some(op))
 }
 
+fn all_ops(alloc: Global, bytes: &[u8], places: &[Place]) -> Result<Vec<Op>, AllocError>
+    requires { IsOpened bytes.now places.now }
+    ensures { IfOk result (λ ops. ops.items ≡ ops_in bytes.now) }
+{
+    let mut ops = Vec::with_capacity(alloc, places.len())?;
+    for place in places {
+        let op = op_from(alloc, bytes, place.start)?;
+        ops.push(op)?;
+    }
+    Ok(ops)
+}
+
 impl Segment {
     /// The segment that the bytes spell, all of the bytes. This reads each operation once, in time with the
     /// length of the bytes. The index grows as operations are read, never by the number that the header
@@ -153,6 +165,13 @@ impl Segment {
             self.places.as_slice(),
             at as usize,
         )
+    }
+
+    /// All operations, in their order. This reads each of them once, and nothing else.
+    pub fn all(&self, alloc: Global) -> Result<Vec<Op>, AllocError>
+        ensures { IfOk result (λ ops. ops.items ≡ self.now) }
+    {
+        all_ops(alloc, self.bytes.as_slice(), self.places.as_slice())
     }
 
     /// The operation of a number, or `None` exactly where it has none. This finds the place by halving, and

@@ -51,6 +51,7 @@ fn a_segment_has_the_stated_bytes(rt: HostRuntime) -> Result<(), Fail> {
     let mut ops = Vec::new(rt.alloc());
     ops.push(op)?;
     assert_eq!(rt; write(rt.alloc(), &ops)?.as_slice(), ROUTED.as_slice());
+    assert_eq!(rt; size(&ops), 51);
     Ok(())
 }
 
@@ -75,6 +76,7 @@ fn operations_are_found_by_their_numbers(rt: HostRuntime) -> Result<(), Fail> {
         assert_eq!(rt; op.term(), term);
     }
     assert!(rt; segment.nth(rt.alloc(), 3)?.is_none());
+    assert_eq!(rt; segment.all(rt.alloc())?.len(), 3);
     for seq in [0, 3, 6] {
         assert!(rt; segment.op_at(rt.alloc(), seq)?.is_none());
     }

@@ -9,6 +9,7 @@ mod fields;
 mod kind;
 mod lists;
 mod message;
+mod messages;
 
 pub use bad_frame::BadFrame;
 pub use content::Content;
@@ -17,6 +18,7 @@ pub use encoding::encode;
 pub use kind::{FrameKind, LeaseResult};
 pub use lists::{Chunk, Ops, Sizes};
 pub use message::Message;
+pub use messages::Messages;
 
 #[cfg(test)]
 mod tests;
