@@ -83,7 +83,7 @@ EVENTS = {
     'Drop': ['at'], 'Wake': ['f', 'at'], 'Lose': ['f', 'at'], 'LoseWrite': ['f', 'write'], 'Take': ['f', 'write'],
     'Apply': ['f', 'epoch', 'write', 'batch'], 'Written': ['f', 'write'], 'Renew': ['f'],
     'Follow': ['params', 'copies', 'name'], 'Pause': ['f'], 'Resume': ['f'], 'Restart': ['f'], 'Unfollow': ['f'],
-    'Search': ['side', 'copy', 'query', 'sort'], 'Status': ['side'], 'Settle': [],
+    'Search': ['side', 'copy', 'search'], 'Status': ['side'], 'Settle': [],
 }
 REPLIES = {
     'Acked': ['global'], 'Promoted': ['term', 'filled'], 'Forced': ['term', 'filled'], 'Resynced': ['dropped', 'taken'], 'Added': ['copy'],
@@ -227,10 +227,9 @@ def field_of(name, x):
         return 'default_params' if value == DEFAULTS else call('params', *(str(value[p]) for p in PARAMS))
     if name == 'name':
         return text(value)
-    if name == 'query':
-        return query(value)
-    if name == 'sort':
-        return listing(application('key', text(field), 'orders.Desc' if descends else 'orders.Asc') for field, descends in value)
+    if name == 'search':
+        keys = listing(application('key', text(field), 'orders.Desc' if descends else 'orders.Asc') for field, descends in x['sort'])
+        return application('search_for', query(x['query']), keys)
     if name == 'picks':
         return listing(map(str, value))
     return str(value)
@@ -278,7 +277,8 @@ def reply(r, e):
         return application('replies.LeaderStatus', str(r['term']), statuses(r['copies']), leases)
     if name == 'FollowerStatus':
         numbers = [str(r[field]) for field in ('reads', 'buffer', 'writes')]
-        return application('replies.FollowerStatus', f'phases.{r["phase"].capitalize()}', str(r['epoch']), str(r['term']), statuses(r['copies']), *numbers)
+        phase = f'phases.{r["phase"].capitalize()}'
+        return application('replies.FollowerStatus', application('follower_status', phase, str(r['epoch']), str(r['term']), statuses(r['copies']), *numbers))
     if name == 'Expired':
         return application('replies.Expired', listing(application('gone', text(id), str(stamp), str(now)) for id, stamp, now in r['list']))
     return application(f'replies.{name}', *(field_of(field, r) for field in REPLIES.get(name, [])))
@@ -302,7 +302,7 @@ use Rattle.ccr_journal.specs.declared.replies.Refusal.TheVariants as refusals
 use Rattle.ccr_journal.specs.declared.replies.Reply.TheVariants as replies
 use Rattle.ccr_journal.specs.declared.replies.WriteResult.TheVariants as written
 use Rattle.ccr_model.specs.Leaders.{{Start}}
-use Rattle.{CRATE}.specs.Words.{{begun, default_params, delete, entry, found, gone, hit, index, key, lease, no_op, params, request, status, wrote}}
+use Rattle.{CRATE}.specs.Words.{{begun, default_params, delete, entry, follower_status, found, gone, hit, index, key, lease, no_op, params, request, search_for, status, wrote}}
 """
 
 

@@ -3,69 +3,10 @@ ghost use Rattle.std.specs.Prelude.{◌≡◌, IfOk};
 
 use crate::boxed::Boxed;
 use crate::params::Params;
-use crate::requests::WriteRequest;
+use crate::requests::{SearchRequest, WriteRequest};
 use crate::sides::{CopyCount, Side};
 use ccr_op::{Batch, LeaseId, Millis};
-use ccr_query::{Query, SortKey};
 use std::alloc::{AllocError, Global};
-use std::marker::Model;
-
-/// The keys by which a search is sorted, the first of which tells most. Contracts see the list of them.
-#[derive(Debug, Drop)]
-pub struct SortKeys {
-    keys: Vec<SortKey>,
-}
-
-impl Model for SortKeys {
-    ghost use Rattle.std.specs.Prelude.{List};
-    ghost use Rattle.ccr_query.specs.declared.sorting.SortKey.{SortKey};
-
-    ghost Value = { List SortKey };
-
-    ghost view = { λ a. a.keys.items };
-}
-
-impl SortKeys {
-    /// These keys.
-    pub fn new(keys: Vec<SortKey>) -> Self
-        ensures { result ≡ keys.items }
-    {
-        SortKeys { keys }
-    }
-
-    /// The keys.
-    pub fn as_slice(&self) -> &[SortKey]
-        ensures { result.now ≡ self.now }
-    {
-        self.keys.as_slice()
-    }
-
-    /// The keys, with their memory.
-    pub fn into_vec(self) -> Vec<SortKey>
-        ensures { result.items ≡ self }
-    {
-        self.keys
-    }
-
-    /// Equal keys.
-    pub fn copy(&self, alloc: Global) -> Result<Self, AllocError>
-        ensures { IfOk result (λ other. other ≡ self.now) }
-    {
-        let keys = copy_keys(alloc, self.keys.as_slice())?;
-        Ok(SortKeys { keys })
-    }
-}
-
-fn copy_keys(alloc: Global, keys: &[SortKey]) -> Result<Vec<SortKey>, AllocError>
-    ensures { IfOk result (λ copies. copies.items ≡ keys.now) }
-{
-    let mut copies = Vec::with_capacity(alloc, keys.len())?;
-    for key in keys {
-        let copied = key.copy(alloc)?;
-        copies.push(copied)?;
-    }
-    Ok(copies)
-}
 
 /// What happens in a shard world. `side` tells whose copies are meant, `f` is the number of a follower
 /// shard, and a copy of 2^32 or more is no copy of any shard.
@@ -209,8 +150,7 @@ pub enum Event {
     Search {
         side: Side,
         copy: u64,
-        query: Boxed<Query>,
-        sort: Boxed<SortKeys>,
+        request: Boxed<SearchRequest>,
     },
     /// A client asks how a side's copies stand.
     Status {
@@ -324,16 +264,13 @@ impl Event {
             Event::Search {
                 side,
                 copy,
-                query,
-                sort,
+                request,
             } => {
-                let query = Boxed::new(alloc, query.get().copy(alloc)?)?;
-                let sort = Boxed::new(alloc, sort.get().copy(alloc)?)?;
+                let request = Boxed::new(alloc, request.get().copy(alloc)?)?;
                 Ok(Event::Search {
                     side: *side,
                     copy: *copy,
-                    query,
-                    sort,
+                    request,
                 })
             }
             Event::Status { side } => Ok(Event::Status { side: *side }),

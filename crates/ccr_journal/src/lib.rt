@@ -14,13 +14,13 @@ mod statuses;
 
 pub use boxed::Boxed;
 pub use ccr_op::Batch;
-pub use events::{Event, SortKeys};
+pub use events::Event;
 pub use journals::{Entry, Journal};
 pub use params::{ParamValues, Params};
 pub use replies::{ExpiredLeases, Heard, Refusal, Reply, WriteResult, Wrote};
-pub use requests::WriteRequest;
+pub use requests::{SearchRequest, SortKeys, WriteRequest};
 pub use sides::{CopyCount, Phase, Side};
-pub use statuses::{CopyStatus, CopyStatuses, KeptLeases};
+pub use statuses::{CopyStatus, CopyStatuses, FollowerStatus, KeptLeases};
 
 #[cfg(test)]
 mod tests;

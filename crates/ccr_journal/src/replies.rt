@@ -2,8 +2,7 @@
 ghost use Rattle.std.specs.Prelude.{◌≡◌, IfOk};
 
 use crate::boxed::Boxed;
-use crate::sides::Phase;
-use crate::statuses::{CopyStatuses, KeptLeases};
+use crate::statuses::{CopyStatuses, FollowerStatus, KeptLeases};
 use ccr_doc::BadSource;
 use ccr_lease::Expired;
 use ccr_op::{Batch, Count, Term};
@@ -180,7 +179,7 @@ fn copy_expired(alloc: Global, leases: &[Expired]) -> Result<Vec<Expired>, Alloc
 #[derive(Drop)]
 pub enum Reply {
     /// A write was numbered and taken by the primary.
-    Written(Wrote),
+    Written(Boxed<Wrote>),
     /// The primary learnt a copy's count: the global count after that.
     Acked {
         global: Count,
@@ -213,7 +212,7 @@ pub enum Reply {
     Merged {
         floor: Count,
         dropped: u64,
-        picks: Picks,
+        picks: Boxed<Picks>,
     },
     /// The leases that were dropped.
     Expired {
@@ -235,29 +234,20 @@ pub enum Reply {
     },
     /// What a search found.
     Found {
-        answer: ShardAnswer,
+        answer: Boxed<ShardAnswer>,
     },
     /// How a leader shard stands.
     LeaderStatus {
         term: Term,
         copies: Boxed<CopyStatuses>,
-        leases: KeptLeases,
+        leases: Boxed<KeptLeases>,
     },
-    /// How a follower shard stands: `reads` and `writes` are those outstanding, `buffer` the operations in
-    /// the buffer. The epoch is 0 during the bootstrap.
-    FollowerStatus {
-        phase: Phase,
-        epoch: u64,
-        term: Term,
-        copies: Boxed<CopyStatuses>,
-        reads: u64,
-        buffer: u64,
-        writes: u64,
-    },
+    /// How a follower shard stands.
+    FollowerStatus(Boxed<FollowerStatus>),
     /// The world is settled.
     Settled,
     /// The event was refused.
-    Refused(Refusal),
+    Refused(Boxed<Refusal>),
     /// The event was done, and there is no more to say.
     Done,
 }
@@ -268,7 +258,10 @@ impl Reply {
         ensures { IfOk result (λ other. other ≡ self.now) }
     {
         match self {
-            Reply::Written(wrote) => Ok(Reply::Written(*wrote)),
+            Reply::Written(wrote) => {
+                let wrote = Boxed::new(alloc, *wrote.get())?;
+                Ok(Reply::Written(wrote))
+            }
             Reply::Acked { global } => Ok(Reply::Acked { global: *global }),
             Reply::Promoted { term, filled } => Ok(Reply::Promoted {
                 term: *term,
@@ -289,7 +282,7 @@ impl Reply {
                 dropped,
                 picks,
             } => {
-                let picks = picks.copy(alloc)?;
+                let picks = Boxed::new(alloc, picks.get().copy(alloc)?)?;
                 Ok(Reply::Merged {
                     floor: *floor,
                     dropped: *dropped,
@@ -310,7 +303,7 @@ impl Reply {
             }
             Reply::Applied { new } => Ok(Reply::Applied { new: *new }),
             Reply::Found { answer } => {
-                let answer = answer.copy(alloc)?;
+                let answer = Boxed::new(alloc, answer.get().copy(alloc)?)?;
                 Ok(Reply::Found { answer })
             }
             Reply::LeaderStatus {
@@ -319,35 +312,22 @@ impl Reply {
                 leases,
             } => {
                 let copies = Boxed::new(alloc, copies.get().copy(alloc)?)?;
-                let leases = leases.copy(alloc)?;
+                let leases = Boxed::new(alloc, leases.get().copy(alloc)?)?;
                 Ok(Reply::LeaderStatus {
                     term: *term,
                     copies,
                     leases,
                 })
             }
-            Reply::FollowerStatus {
-                phase,
-                epoch,
-                term,
-                copies,
-                reads,
-                buffer,
-                writes,
-            } => {
-                let copies = Boxed::new(alloc, copies.get().copy(alloc)?)?;
-                Ok(Reply::FollowerStatus {
-                    phase: *phase,
-                    epoch: *epoch,
-                    term: *term,
-                    copies,
-                    reads: *reads,
-                    buffer: *buffer,
-                    writes: *writes,
-                })
+            Reply::FollowerStatus(status) => {
+                let status = Boxed::new(alloc, status.get().copy(alloc)?)?;
+                Ok(Reply::FollowerStatus(status))
             }
             Reply::Settled => Ok(Reply::Settled),
-            Reply::Refused(refusal) => Ok(Reply::Refused(*refusal)),
+            Reply::Refused(refusal) => {
+                let refusal = Boxed::new(alloc, *refusal.get())?;
+                Ok(Reply::Refused(refusal))
+            }
             Reply::Done => Ok(Reply::Done),
         }
     }

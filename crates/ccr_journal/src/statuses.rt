@@ -1,8 +1,9 @@
-// How the copies of a shard stand.
+// How the copies of a shard, and a follower, stand.
 ghost use Rattle.std.specs.Prelude.{◌≡◌, IfOk};
 
+use crate::sides::Phase;
 use ccr_lease::Lease;
-use ccr_op::Count;
+use ccr_op::{Count, Term};
 use std::alloc::{AllocError, Global};
 use std::marker::Model;
 
@@ -64,6 +65,41 @@ impl CopyStatuses {
     {
         let list = Vec::from_slice(alloc, self.list.as_slice())?;
         Ok(CopyStatuses { list })
+    }
+}
+
+/// How a follower shard stands.
+#[derive(Debug, Drop)]
+pub struct FollowerStatus {
+    pub phase: Phase,
+    /// The epoch of its task, which is 0 during the bootstrap.
+    pub epoch: u64,
+    /// The term of its primary.
+    pub term: Term,
+    pub copies: CopyStatuses,
+    /// How many reads are outstanding.
+    pub reads: u64,
+    /// How many operations are in the buffer.
+    pub buffer: u64,
+    /// How many writes are outstanding.
+    pub writes: u64,
+}
+
+impl FollowerStatus {
+    /// An equal status.
+    pub fn copy(&self, alloc: Global) -> Result<Self, AllocError>
+        ensures { IfOk result (λ other. other ≡ self.now) }
+    {
+        let copies = self.copies.copy(alloc)?;
+        Ok(FollowerStatus {
+            phase: self.phase,
+            epoch: self.epoch,
+            term: self.term,
+            copies,
+            reads: self.reads,
+            buffer: self.buffer,
+            writes: self.writes,
+        })
     }
 }
 

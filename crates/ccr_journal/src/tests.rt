@@ -2,26 +2,25 @@ use super::*;
 use ccr_lease::{Expired, Lease};
 use ccr_op::{Body, DocId, LeaseId, Name, Op};
 use ccr_policy::Picks;
-use ccr_query::{Condition, Hit, Node, Query, ShardAnswer, SortKey, SortOrder};
+use ccr_query::{Hit, ShardAnswer};
 use std::alloc::{AllocError, Global};
-use std::process::Abort;
 use std::sync::ArcStr;
 use std::test::Fail;
 
-/// The parameters of a follower that is made without any.
-const VALUES: ParamValues = ParamValues {
-    max_read_request_operation_count: 5_120,
-    max_read_request_size: 33_554_432,
-    max_outstanding_read_requests: 12,
-    max_write_request_operation_count: 5_120,
-    max_write_request_size: 9_223_372_036_854_775_807,
-    max_outstanding_write_requests: 9,
-    max_write_buffer_count: 2_147_483_647,
-    max_write_buffer_size: 536_870_912,
-    max_retry_delay: 500,
-    read_poll_timeout: 60_000,
-    chunk_size: 1_048_576,
-};
+/// The parameters of a follower that is made without any, in the order of the fields.
+const DEFAULTS: [u64; 11] = [
+    5_120,
+    33_554_432,
+    12,
+    5_120,
+    9_223_372_036_854_775_807,
+    9,
+    2_147_483_647,
+    536_870_912,
+    500,
+    60_000,
+    1_048_576,
+];
 
 /// The greatest value of each parameter, in the order of the fields.
 const GREATEST: [u64; 11] = [
@@ -38,40 +37,47 @@ const GREATEST: [u64; 11] = [
     16_777_216,
 ];
 
-/// The values with another one at a place, in the order of the fields.
-fn with_value(place: usize, n: u64) -> ParamValues {
-    let mut values = VALUES;
-    match place {
-        0 => values.max_read_request_operation_count = n,
-        1 => values.max_read_request_size = n,
-        2 => values.max_outstanding_read_requests = n,
-        3 => values.max_write_request_operation_count = n,
-        4 => values.max_write_request_size = n,
-        5 => values.max_outstanding_write_requests = n,
-        6 => values.max_write_buffer_count = n,
-        7 => values.max_write_buffer_size = n,
-        8 => values.max_retry_delay = n,
-        9 => values.read_poll_timeout = n,
-        _ => values.chunk_size = n,
+fn values_of(n: [u64; 11]) -> ParamValues {
+    ParamValues {
+        max_read_request_operation_count: n[0],
+        max_read_request_size: n[1],
+        max_outstanding_read_requests: n[2],
+        max_write_request_operation_count: n[3],
+        max_write_request_size: n[4],
+        max_outstanding_write_requests: n[5],
+        max_write_buffer_count: n[6],
+        max_write_buffer_size: n[7],
+        max_retry_delay: n[8],
+        read_poll_timeout: n[9],
+        chunk_size: n[10],
     }
-    values
+}
+
+/// Whether the parameters with another one at a place are in their ranges.
+fn is_in_range(place: usize, n: u64) -> bool {
+    let mut values = DEFAULTS;
+    if let Some(value) = values.get_mut(place) {
+        *value = n;
+    }
+    Params::new(values_of(values)).is_some()
 }
 
 #[test]
 fn each_parameter_has_its_range(rt: HostRuntime) {
     for (place, greatest) in GREATEST.into_iter().enumerate() {
+        assert!(rt; !is_in_range(place, 0), "0 at {place}");
+        assert!(rt; is_in_range(place, 1), "1 at {place}");
+        assert!(rt; is_in_range(place, greatest), "{greatest} at {place}");
         let above = greatest.saturating_add(1);
-        for (n, is_in_range) in [(0, false), (1, true), (greatest, true), (above, false)] {
-            let params = Params::new(with_value(place, n));
-            assert_eq!(rt; params.is_some(), is_in_range, "{n} at {place}");
-        }
+        assert!(rt; !is_in_range(place, above), "{above} at {place}");
     }
 }
 
 #[test]
 fn parameters_keep_their_values(rt: HostRuntime) {
-    let params = Params::new(VALUES).expect(&rt, "each is in its range");
-    assert!(rt; *params.copy().values() == VALUES);
+    let values = values_of(DEFAULTS);
+    let params = Params::new(values).expect(&rt, "each is in its range");
+    assert!(rt; *params.copy().values() == values);
 }
 
 #[test]
@@ -82,14 +88,6 @@ fn a_shard_has_one_to_eight_copies(rt: HostRuntime) {
     }
     let count = CopyCount::new(5).expect(&rt, "five copies");
     assert_eq!(rt; count.copy().get(), 5);
-}
-
-/// The batch of two operations that fill numbers.
-fn batch_of_two(alloc: Global, first: u64, second: u64) -> Result<Batch, AllocError> {
-    let mut ops = Vec::new(alloc);
-    ops.push(Op::no_op(first, 1))?;
-    ops.push(Op::no_op(second, 1))?;
-    Ok(Batch::new(ops))
 }
 
 /// How many sessions the reply of an entry says were closed.
@@ -148,101 +146,131 @@ fn a_request_is_copied(rt: HostRuntime) -> Result<(), Fail> {
 
 /// The statuses of one copy.
 fn statuses(alloc: Global) -> Result<CopyStatuses, AllocError> {
-    let mut list = Vec::new(alloc);
-    list.push(CopyStatus {
+    let status = CopyStatus {
         copy: 3,
         count: 2,
         global: 1,
         floor: 0,
         held: 2,
-    })?;
+    };
+    let list = Vec::from_array(alloc, [status])?;
     Ok(CopyStatuses::new(list))
 }
 
-/// One reply of each kind that owns memory.
-fn replies(rt: &(impl Alloc<A = Global> + Abort)) -> Result<Vec<Reply>, AllocError> {
-    let alloc = rt.alloc();
-    let mut places = Vec::new(alloc);
-    places.push(1)?;
-    let mut expired = Vec::new(alloc);
-    expired.push(Expired {
-        id: LeaseId::new(text(alloc, "x")?).expect(rt, "an id"),
-        stamp: 110,
-        now: 161,
-    })?;
-    let mut hits = Vec::new(alloc);
-    hits.push(Hit {
-        id: DocId::new(text(alloc, "a")?).expect(rt, "an id"),
-        routing: None,
-        body: Body::new(text(alloc, "{}")?),
-    })?;
-    let mut leases = Vec::new(alloc);
-    leases.push(Lease {
-        id: LeaseId::new(text(alloc, "y")?).expect(rt, "an id"),
-        number: 5,
-        stamp: 100,
-    })?;
-    let mut replies = Vec::new(alloc);
-    replies.push(Reply::Merged {
+fn merged(alloc: Global) -> Result<Reply, AllocError> {
+    let picks = Picks::of(Vec::from_array(alloc, [1])?);
+    let picks = Boxed::new(alloc, picks)?;
+    Ok(Reply::Merged {
         floor: 2,
         dropped: 1,
-        picks: Picks::of(places),
-    })?;
-    replies.push(Reply::Expired {
-        list: ExpiredLeases::new(expired),
-    })?;
-    replies.push(Reply::Took {
-        batch: batch_of_two(alloc, 0, 1)?,
-    })?;
-    replies.push(Reply::Found {
-        answer: ShardAnswer::new(1, false, hits),
-    })?;
-    replies.push(Reply::LeaderStatus {
+        picks,
+    })
+}
+
+fn expired(alloc: Global, id: LeaseId) -> Result<Reply, AllocError> {
+    let lease = Expired {
+        id,
+        stamp: 110,
+        now: 161,
+    };
+    let list = ExpiredLeases::new(Vec::from_array(alloc, [lease])?);
+    Ok(Reply::Expired { list })
+}
+
+fn took(alloc: Global) -> Result<Reply, AllocError> {
+    let batch = Batch::new(Vec::from_array(alloc, [Op::no_op(0, 1)])?);
+    Ok(Reply::Took { batch })
+}
+
+fn found(alloc: Global, id: DocId, body: Body) -> Result<Reply, AllocError> {
+    let hit = Hit {
+        id,
+        routing: None,
+        body,
+    };
+    let hits = Vec::from_array(alloc, [hit])?;
+    let answer = Boxed::new(alloc, ShardAnswer::new(1, false, hits))?;
+    Ok(Reply::Found { answer })
+}
+
+fn leader_status(alloc: Global, id: LeaseId) -> Result<Reply, AllocError> {
+    let lease = Lease {
+        id,
+        number: 5,
+        stamp: 100,
+    };
+    let leases = KeptLeases::new(Vec::from_array(alloc, [lease])?);
+    let leases = Boxed::new(alloc, leases)?;
+    let copies = Boxed::new(alloc, statuses(alloc)?)?;
+    Ok(Reply::LeaderStatus {
         term: 1,
-        copies: Boxed::new(alloc, statuses(alloc)?)?,
-        leases: KeptLeases::new(leases),
-    })?;
-    replies.push(Reply::FollowerStatus {
+        copies,
+        leases,
+    })
+}
+
+fn follower_status(alloc: Global) -> Result<Reply, AllocError> {
+    let status = FollowerStatus {
         phase: Phase::Active,
         epoch: 1,
         term: 1,
-        copies: Boxed::new(alloc, statuses(alloc)?)?,
+        copies: statuses(alloc)?,
         reads: 12,
         buffer: 0,
         writes: 0,
-    })?;
-    Ok(replies)
+    };
+    let status = Boxed::new(alloc, status)?;
+    Ok(Reply::FollowerStatus(status))
 }
 
-/// Whether the reply has what that of its kind among `replies` owns.
-fn tells_its_parts(reply: &Reply) -> bool {
+/// Whether the reply has the one part that those above own of each kind.
+fn has_its_parts(reply: &Reply) -> bool {
     match reply {
-        Reply::Merged { picks, .. } => picks.as_slice() == [1].as_slice(),
+        Reply::Merged { picks, .. } => picks.get().as_slice() == [1].as_slice(),
         Reply::Expired { list } => list.as_slice().len() == 1,
-        Reply::Took { batch } => batch.as_slice().len() == 2,
-        Reply::Found { answer } => answer.hits().len() == 1,
+        Reply::Took { batch } => batch.as_slice().len() == 1,
+        Reply::Found { answer } => answer.get().hits().len() == 1,
         Reply::LeaderStatus { copies, leases, .. } => {
-            copies.get().as_slice().len() == 1 && leases.as_slice().len() == 1
+            copies.get().as_slice().len() == 1 && leases.get().as_slice().len() == 1
         }
-        Reply::FollowerStatus { copies, .. } => copies.get().as_slice().len() == 1,
+        Reply::FollowerStatus(status) => status.get().copies.as_slice().len() == 1,
         _ => false,
     }
 }
 
+fn is_copied(alloc: Global, reply: Reply) -> Result<bool, AllocError> {
+    let copied = reply.copy(alloc)?;
+    Ok(has_its_parts(&copied))
+}
+
 #[test]
 fn replies_are_copied(rt: HostRuntime) -> Result<(), Fail> {
-    let replies = replies(&rt)?;
-    assert_eq!(rt; replies.len(), 6);
-    for reply in &replies {
-        let copied = reply.copy(rt.alloc())?;
-        assert!(rt; tells_its_parts(&copied));
-    }
+    let alloc = rt.alloc();
+    assert!(rt; is_copied(alloc, merged(alloc)?)?);
+    assert!(rt; is_copied(alloc, took(alloc)?)?);
+    assert!(rt; is_copied(alloc, follower_status(alloc)?)?);
+    let lease = LeaseId::new(text(alloc, "x")?).ok_or("an id")?;
+    assert!(rt; is_copied(alloc, expired(alloc, lease.copy(alloc)?)?)?);
+    assert!(rt; is_copied(alloc, leader_status(alloc, lease)?)?);
+    let id = DocId::new(text(alloc, "a")?).ok_or("an id")?;
+    let body = Body::new(text(alloc, "{}")?);
+    assert!(rt; is_copied(alloc, found(alloc, id, body)?)?);
     Ok(())
+}
+
+fn send<T: Send>() {}
+
+#[test]
+fn events_replies_and_journals_go_to_threads(_rt: HostRuntime) {
+    send::<Event>();
+    send::<Reply>();
+    send::<Entry>();
+    send::<Journal>();
 }
 
 #[test]
 fn an_entry_is_small(rt: HostRuntime) {
-    assert_eq!(rt; size_of::<Event>(), 40);
-    assert_eq!(rt; size_of::<Reply>(), 56);
-    assert_eq!(rt; size_of::<Entry>(), 96);
+    assert_eq!(rt; size_of::<Event>(), 32);
+    assert_eq!(rt; size_of::<Reply>(), 32);
+    assert_eq!(rt; size_of::<Entry>(), 64);
 }

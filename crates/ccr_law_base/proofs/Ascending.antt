@@ -472,9 +472,9 @@ ascend-keeps s (events.Deliver at copy keep) picks = delivering s at copy keep (
 ascend-keeps s (events.Drop at) picks = dropping s at (slice_get s.flight at)
 ascend-keeps s (events.Wake f at) picks = waking_up s f at (slice_get s.followers f)
 ascend-keeps s (events.Follow params copies name) picks = following s params copies name (same_name s.followers name)
-ascend-keeps s (events.Search sides.Leader copy query sort) picks = searching s copy query sort (copy_of s.leader.copies copy)
-ascend-keeps s (events.Search (sides.Follower f) copy query sort) picks =
-    searching_at s f (search_row s copy query sort) copy (slice_get s.followers f) (searching s copy query sort)
+ascend-keeps s (events.Search sides.Leader copy request) picks = searching s copy request.query request.sort (copy_of s.leader.copies copy)
+ascend-keeps s (events.Search (sides.Follower f) copy request) picks =
+    searching_at s f (search_row s copy request.query request.sort) copy (slice_get s.followers f) (searching s copy request.query request.sort)
 ascend-keeps s (events.Status sides.Leader) picks = by_leader s (leader_status s.leader) (showing s.leader)
 ascend-keeps s events.Settle picks = λ all. on_guards (λ (o : Outcome State). CopiesAscend o.next) s _ _ (λ why. all) (λ tests. all)
 ascend-keeps s (events.Replicate (sides.Follower f) copy seq) picks = by_follower s f (λ x. follower_replicate x copy seq) (λ own. replicating_copy own.copies copy seq _ refl)

@@ -449,9 +449,9 @@ refusals-quiet s (events.Deliver at copy keep) picks = delivering s at copy keep
 refusals-quiet s (events.Drop at) picks = dropping s at (slice_get s.flight at)
 refusals-quiet s (events.Wake f at) picks = waking_up s f at (slice_get s.followers f)
 refusals-quiet s (events.Follow params copies name) picks = following s params copies name (same_name s.followers name)
-refusals-quiet s (events.Search sides.Leader copy query sort) picks = searching s copy query sort (copy_of s.leader.copies copy)
-refusals-quiet s (events.Search (sides.Follower f) copy query sort) picks =
-    searching_at s f (search_row s copy query sort) copy (slice_get s.followers f) (searching s copy query sort)
+refusals-quiet s (events.Search sides.Leader copy request) picks = searching s copy request.query request.sort (copy_of s.leader.copies copy)
+refusals-quiet s (events.Search (sides.Follower f) copy request) picks =
+    searching_at s f (search_row s copy request.query request.sort) copy (slice_get s.followers f) (searching s copy request.query request.sort)
 refusals-quiet s (events.Status sides.Leader) picks = quiet-leader s _ (quiet-answered s.leader _ (showing s.leader))
 refusals-quiet s events.Settle picks = on_guards (IsQuiet s) s _ _ (λ why other is. (refl, refl)) (λ tests why is. absurd (cc))
 refusals-quiet s (events.Replicate (sides.Follower f) copy seq) picks =

@@ -55,7 +55,7 @@ answering s (replies.Took batch) o is = record { history = is.history; stale = i
 answering s (replies.Applied new) o is = record { history = is.history; stale = is.stale; start = is.start }
 answering s (replies.Found answer) o is = record { history = is.history; stale = is.stale; start = is.start }
 answering s (replies.LeaderStatus term copies leases) o is = record { history = is.history; stale = is.stale; start = is.start }
-answering s (replies.FollowerStatus phase epoch term copies reads buffer writes) o is = record { history = is.history; stale = is.stale; start = is.start }
+answering s (replies.FollowerStatus status) o is = record { history = is.history; stale = is.stale; start = is.start }
 answering s replies.Settled o is = record { history = is.history; stale = is.stale; start = is.start }
 answering s replies.Done o is = record { history = is.history; stale = is.stale; start = is.start }
 
@@ -233,9 +233,9 @@ leader_stays s (events.Deliver at copy keep) picks quiet = delivering s at copy 
 leader_stays s (events.Drop at) picks quiet = dropping s at (slice_get s.flight at)
 leader_stays s (events.Wake f at) picks quiet = waking_up s f at (slice_get s.followers f)
 leader_stays s (events.Follow params copies name) picks quiet = following s params copies name (same_name s.followers name)
-leader_stays s (events.Search sides.Leader copy query sort) picks quiet = searching s copy query sort (copy_of s.leader.copies copy)
-leader_stays s (events.Search (sides.Follower f) copy query sort) picks quiet =
-    searching_at s f (search_row s copy query sort) copy (slice_get s.followers f) (searching s copy query sort)
+leader_stays s (events.Search sides.Leader copy request) picks quiet = searching s copy request.query request.sort (copy_of s.leader.copies copy)
+leader_stays s (events.Search (sides.Follower f) copy request) picks quiet =
+    searching_at s f (search_row s copy request.query request.sort) copy (slice_get s.followers f) (searching s copy request.query request.sort)
 leader_stays s (events.Status sides.Leader) picks quiet = showing s.leader
 leader_stays s events.Settle picks quiet =
     on_guards (λ (o : Outcome State). Stays s.leader o.next.leader) s _ _ (λ why. itself_stays s.leader) (λ tests. itself_stays s.leader)
@@ -299,8 +299,8 @@ history_stays s (events.Deliver at copy keep) picks none = (leader_stays s (even
 history_stays s (events.Drop at) picks none = (leader_stays s (events.Drop at) picks refl).history
 history_stays s (events.Wake f at) picks none = (leader_stays s (events.Wake f at) picks refl).history
 history_stays s (events.Follow params copies name) picks none = (leader_stays s (events.Follow params copies name) picks refl).history
-history_stays s (events.Search sides.Leader copy query sort) picks none = (leader_stays s (events.Search sides.Leader copy query sort) picks refl).history
-history_stays s (events.Search (sides.Follower f) copy query sort) picks none = (leader_stays s (events.Search (sides.Follower f) copy query sort) picks refl).history
+history_stays s (events.Search sides.Leader copy request) picks none = (leader_stays s (events.Search sides.Leader copy request) picks refl).history
+history_stays s (events.Search (sides.Follower f) copy request) picks none = (leader_stays s (events.Search (sides.Follower f) copy request) picks refl).history
 history_stays s (events.Status sides.Leader) picks none = (leader_stays s (events.Status sides.Leader) picks refl).history
 history_stays s events.Settle picks none = (leader_stays s events.Settle picks refl).history
 history_stays s (events.Replicate (sides.Follower f) copy seq) picks none = (leader_stays s (events.Replicate (sides.Follower f) copy seq) picks refl).history

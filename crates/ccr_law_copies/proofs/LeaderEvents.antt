@@ -115,10 +115,10 @@ living-keeps p (events.Pause f) picks core stale = on_followers p f _ core
 living-keeps p (events.Resume f) picks core stale = on_followers p f _ core
 living-keeps p (events.Restart f) picks core stale = on_followers p f _ core
 living-keeps p (events.Unfollow f) picks core stale = on_followers p f _ core
-living-keeps p (events.Search sides.Leader copy query sort) picks core stale =
-    kept_by p (step p.state (events.Search sides.Leader copy query sort) picks) (search_keeps p.state copy query sort (copy_of p.state.leader.copies copy)) core
-living-keeps p (events.Search (sides.Follower f) copy query sort) picks core stale =
-    kept_by p (step p.state (events.Search (sides.Follower f) copy query sort) picks) (searched_keeps p.state f (search_row p.state copy query sort) copy (slice_get p.state.followers f) (search_keeps p.state copy query sort)) core
+living-keeps p (events.Search sides.Leader copy request) picks core stale =
+    kept_by p (step p.state (events.Search sides.Leader copy request) picks) (search_keeps p.state copy request.query request.sort (copy_of p.state.leader.copies copy)) core
+living-keeps p (events.Search (sides.Follower f) copy request) picks core stale =
+    kept_by p (step p.state (events.Search (sides.Follower f) copy request) picks) (searched_keeps p.state f (search_row p.state copy request.query request.sort) copy (slice_get p.state.followers f) (search_keeps p.state copy request.query request.sort)) core
 living-keeps p (events.Status sides.Leader) picks core stale = status_keeps p core
 living-keeps p (events.Status (sides.Follower f)) picks core stale = on_followers p f _ core
 living-keeps p events.Settle picks core stale =
@@ -273,8 +273,8 @@ stale-keeps p (events.Deliver at copy keep) picks core stale = quietly_stale p (
 stale-keeps p (events.Drop at) picks core stale = quietly_stale p (events.Drop at) picks refl (drop_keeps p.state at (slice_get p.state.flight at)) stale
 stale-keeps p (events.Wake f at) picks core stale = quietly_stale p (events.Wake f at) picks refl (woken_keeps p.state f at (slice_get p.state.followers f)) stale
 stale-keeps p (events.Follow params copies name) picks core stale = quietly_stale p (events.Follow params copies name) picks refl (follow_keeps p.state params copies name (same_name p.state.followers name)) stale
-stale-keeps p (events.Search sides.Leader copy query sort) picks core stale = quietly_stale p (events.Search sides.Leader copy query sort) picks refl (search_keeps p.state copy query sort (copy_of p.state.leader.copies copy)) stale
-stale-keeps p (events.Search (sides.Follower f) copy query sort) picks core stale = quietly_stale p (events.Search (sides.Follower f) copy query sort) picks refl (searched_keeps p.state f (search_row p.state copy query sort) copy (slice_get p.state.followers f) (search_keeps p.state copy query sort)) stale
+stale-keeps p (events.Search sides.Leader copy request) picks core stale = quietly_stale p (events.Search sides.Leader copy request) picks refl (search_keeps p.state copy request.query request.sort (copy_of p.state.leader.copies copy)) stale
+stale-keeps p (events.Search (sides.Follower f) copy request) picks core stale = quietly_stale p (events.Search (sides.Follower f) copy request) picks refl (searched_keeps p.state f (search_row p.state copy request.query request.sort) copy (slice_get p.state.followers f) (search_keeps p.state copy request.query request.sort)) stale
 stale-keeps p (events.Status sides.Leader) picks core stale = quietly_stale p (events.Status sides.Leader) picks refl (status_same p.state) stale
 stale-keeps p events.Settle picks core stale = quietly_stale p events.Settle picks refl (settle_same p.state) stale
 stale-keeps p (events.Replicate (sides.Follower f) copy seq) picks core stale = quietly_stale p (events.Replicate (sides.Follower f) copy seq) picks refl (for_follower_keeps p.state f _ (slice_get p.state.followers f)) stale
@@ -512,8 +512,8 @@ lines_stay p (events.Deliver at copy keep) picks core history other = quiet_fron
 lines_stay p (events.Drop at) picks core history other = quiet_front p (events.Drop at) picks core refl history
 lines_stay p (events.Wake f at) picks core history other = quiet_front p (events.Wake f at) picks core refl history
 lines_stay p (events.Follow params copies name) picks core history other = quiet_front p (events.Follow params copies name) picks core refl history
-lines_stay p (events.Search sides.Leader copy query sort) picks core history other = quiet_front p (events.Search sides.Leader copy query sort) picks core refl history
-lines_stay p (events.Search (sides.Follower f) copy query sort) picks core history other = quiet_front p (events.Search (sides.Follower f) copy query sort) picks core refl history
+lines_stay p (events.Search sides.Leader copy request) picks core history other = quiet_front p (events.Search sides.Leader copy request) picks core refl history
+lines_stay p (events.Search (sides.Follower f) copy request) picks core history other = quiet_front p (events.Search (sides.Follower f) copy request) picks core refl history
 lines_stay p (events.Status sides.Leader) picks core history other = quiet_front p (events.Status sides.Leader) picks core refl history
 lines_stay p events.Settle picks core history other = quiet_front p events.Settle picks core refl history
 lines_stay p (events.Replicate (sides.Follower f) copy seq) picks core history other = quiet_front p (events.Replicate (sides.Follower f) copy seq) picks core refl history

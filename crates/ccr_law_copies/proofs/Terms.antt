@@ -175,11 +175,11 @@ term_goes_on s (events.Pause f) picks = follows s f _
 term_goes_on s (events.Resume f) picks = follows s f _
 term_goes_on s (events.Restart f) picks = follows s f _
 term_goes_on s (events.Unfollow f) picks = follows s f _
-term_goes_on s (events.Search sides.Leader copy query sort) picks =
-    keeps s (step s (events.Search sides.Leader copy query sort) picks) (search_keeps s copy query sort (copy_of s.leader.copies copy))
-term_goes_on s (events.Search (sides.Follower f) copy query sort) picks =
-    keeps s (step s (events.Search (sides.Follower f) copy query sort) picks)
-    (searched_keeps s f (search_row s copy query sort) copy (slice_get s.followers f) (search_keeps s copy query sort))
+term_goes_on s (events.Search sides.Leader copy request) picks =
+    keeps s (step s (events.Search sides.Leader copy request) picks) (search_keeps s copy request.query request.sort (copy_of s.leader.copies copy))
+term_goes_on s (events.Search (sides.Follower f) copy request) picks =
+    keeps s (step s (events.Search (sides.Follower f) copy request) picks)
+    (searched_keeps s f (search_row s copy request.query request.sort) copy (slice_get s.followers f) (search_keeps s copy request.query request.sort))
 term_goes_on s (events.Status sides.Leader) picks = shows s.leader
 term_goes_on s (events.Status (sides.Follower f)) picks = follows s f _
 term_goes_on s events.Settle picks =

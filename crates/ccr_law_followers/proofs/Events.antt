@@ -273,12 +273,12 @@ after p (events.Unfollow f) picks g ok =
     (λ k reply isnt. record { given = λ s line given. refl; written = λ s written. refl })
     (λ line s at on is. kept line f (p.followers f) (events.Unfollow f) (unfollow_row s (task_of s.work)).reply s (unfollow_row s (task_of s.work)).next refl refl
     (unfollow_keeps s (task_of s.work) refl) is) ok
-after p (events.Search sides.Leader copy query sort) picks g ok =
-    unmoved p (events.Search sides.Leader copy query sort) _ (search_same p.state copy query sort (copy_of p.state.leader.copies copy))
+after p (events.Search sides.Leader copy request) picks g ok =
+    unmoved p (events.Search sides.Leader copy request) _ (search_same p.state copy request.query request.sort (copy_of p.state.leader.copies copy))
     (λ k s at. record { given = λ s line given. refl; written = λ s written. refl }) ok
-after p (events.Search (sides.Follower f) copy query sort) picks g ok =
-    unmoved p (events.Search (sides.Follower f) copy query sort) _
-    (searched_same p.state f (search_row p.state copy query sort) copy (slice_get p.state.followers f) (search_same p.state copy query sort))
+after p (events.Search (sides.Follower f) copy request) picks g ok =
+    unmoved p (events.Search (sides.Follower f) copy request) _
+    (searched_same p.state f (search_row p.state copy request.query request.sort) copy (slice_get p.state.followers f) (search_same p.state copy request.query request.sort))
     (λ k s at. record { given = λ s line given. refl; written = λ s written. refl }) ok
 after p (events.Status sides.Leader) picks g ok =
     unmoved p (events.Status sides.Leader) _ refl (λ k s at. record { given = λ s line given. refl; written = λ s written. refl }) ok

@@ -215,10 +215,10 @@ works-after p (events.Restart f) picks frames range ok =
     works_one p p.state.flight f (λ x. restart_row x (task_of x.work)) (slice_get p.state.followers f) refl (λ s at is. restart_work p.opened s (task_of s.work) is) ok
 works-after p (events.Unfollow f) picks frames range ok =
     works_one p p.state.flight f (λ x. unfollow_row x (task_of x.work)) (slice_get p.state.followers f) refl (λ s at is. unfollow_work p.opened s (task_of s.work) is) ok
-works-after p (events.Search sides.Leader copy query sort) picks frames range ok =
-    works_same p (step p.state (events.Search sides.Leader copy query sort) picks) (search_same p.state copy query sort (copy_of p.state.leader.copies copy)) ok
-works-after p (events.Search (sides.Follower f) copy query sort) picks frames range ok =
-    works_same p (step p.state (events.Search (sides.Follower f) copy query sort) picks) (searched_same p.state f (search_row p.state copy query sort) copy (slice_get p.state.followers f) (search_same p.state copy query sort)) ok
+works-after p (events.Search sides.Leader copy request) picks frames range ok =
+    works_same p (step p.state (events.Search sides.Leader copy request) picks) (search_same p.state copy request.query request.sort (copy_of p.state.leader.copies copy)) ok
+works-after p (events.Search (sides.Follower f) copy request) picks frames range ok =
+    works_same p (step p.state (events.Search (sides.Follower f) copy request) picks) (searched_same p.state f (search_row p.state copy request.query request.sort) copy (slice_get p.state.followers f) (search_same p.state copy request.query request.sort)) ok
 works-after p (events.Status sides.Leader) picks frames range ok = λ f new at. ok f new at
 works-after p (events.Status (sides.Follower f)) picks frames range ok =
     works_one p p.state.flight f follower_status_row (slice_get p.state.followers f) refl (λ s at is. status_work p.opened s is) ok

@@ -240,9 +240,9 @@ sessions-go s (events.Pause f) picks = follower-sessions s f _ (slice_get s.foll
 sessions-go s (events.Resume f) picks = follower-sessions s f _ (slice_get s.followers f)
 sessions-go s (events.Restart f) picks = follower-sessions s f _ (slice_get s.followers f)
 sessions-go s (events.Unfollow f) picks = follower-sessions s f _ (slice_get s.followers f)
-sessions-go s (events.Search sides.Leader copy query sort) picks = search-sessions s copy query sort (copy_of s.leader.copies copy)
-sessions-go s (events.Search (sides.Follower f) copy query sort) picks =
-    searched-sessions s f (search_row s copy query sort) copy (slice_get s.followers f) (λ c. search-sessions s copy query sort c)
+sessions-go s (events.Search sides.Leader copy request) picks = search-sessions s copy request.query request.sort (copy_of s.leader.copies copy)
+sessions-go s (events.Search (sides.Follower f) copy request) picks =
+    searched-sessions s f (search_row s copy request.query request.sort) copy (slice_get s.followers f) (λ c. search-sessions s copy request.query request.sort c)
 sessions-go s (events.Status sides.Leader) picks = status-sessions s.leader
 sessions-go s (events.Status (sides.Follower f)) picks = follower-sessions s f _ (slice_get s.followers f)
 sessions-go s events.Settle picks =

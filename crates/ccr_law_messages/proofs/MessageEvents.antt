@@ -252,9 +252,9 @@ each-tells scene s (events.Pause f) picks serves finds params now = on-followers
 each-tells scene s (events.Resume f) picks serves finds params now = on-followers scene s f (λ x. resume_row x (task_of x.work)) now (λ x good. resume-goes scene f x good)
 each-tells scene s (events.Restart f) picks serves finds params now = on-followers scene s f (λ x. restart_row x (task_of x.work)) now (λ x good. restart-goes scene f x good)
 each-tells scene s (events.Unfollow f) picks serves finds params now = on-followers scene s f (λ x. unfollow_row x (task_of x.work)) now (λ x good. unfollow-goes scene f x good)
-each-tells scene s (events.Search sides.Leader copy query sort) picks serves finds params now = by-search scene s copy query sort (copy_of s.leader.copies copy) now
-each-tells scene s (events.Search (sides.Follower f) copy query sort) picks serves finds params now =
-    by-searched scene s f (search_row s copy query sort) copy (slice_get s.followers f) (λ c. by-search scene s copy query sort c now) now
+each-tells scene s (events.Search sides.Leader copy request) picks serves finds params now = by-search scene s copy request.query request.sort (copy_of s.leader.copies copy) now
+each-tells scene s (events.Search (sides.Follower f) copy request) picks serves finds params now =
+    by-searched scene s f (search_row s copy request.query request.sort) copy (slice_get s.followers f) (λ c. by-search scene s copy request.query request.sort c now) now
 each-tells scene s (events.Status sides.Leader) picks serves finds params now = by-status scene s now
 each-tells scene s (events.Status (sides.Follower f)) picks serves finds params now = on-followers scene s f follower_status_row now (λ x good. status-goes scene f x good)
 each-tells scene s events.Settle picks serves finds params now =

@@ -39,15 +39,15 @@ below-next : (p : Past) (f : ℕ) (x : Follower) → HasGrounds p → slice_get 
 below-next p f x grounds there t is = subst (λ (w : Work). AsksBelowNext w) is (grounds.reads f x there)
 
 search-place : (p : Past) (side : Side) (own copy : ℕ) (query : Tree) (sort : List SortKey) (c : Option Copy) → IsRetaining p
-    → IsRetaining (past_with p (record { event = events.Search side own query sort; reply = (search_row p.state copy query sort c).reply }) (search_row p.state copy query sort c))
+    → IsRetaining (past_with p (record { event = events.Search side own (record { query = query; sort = sort }); reply = (search_row p.state copy query sort c).reply }) (search_row p.state copy query sort c))
 unfolding search_row
-search-place p side own copy query sort None all = refused-place p (events.Search side own query sort) (NoCopy copy) all
-search-place p side own copy query sort (Some c) all = quiet-place p (events.Search side own query sort) (replies.Found (search_of c query sort)) (none-begins p (events.Search side own query sort) _ refl) refl refl all
+search-place p side own copy query sort None all = refused-place p (events.Search side own (record { query = query; sort = sort })) (NoCopy copy) all
+search-place p side own copy query sort (Some c) all = quiet-place p (events.Search side own (record { query = query; sort = sort })) (replies.Found (search_of c query sort)) (none-begins p (events.Search side own (record { query = query; sort = sort })) _ refl) refl refl all
 
 search-at-follower : (p : Past) (f copy : ℕ) (query : Tree) (sort : List SortKey) (found : Option Follower) → IsRetaining p
-    → (λ (o : Outcome State). IsRetaining (past_with p (record { event = events.Search (sides.Follower f) copy query sort; reply = o.reply }) o))
+    → (λ (o : Outcome State). IsRetaining (past_with p (record { event = events.Search (sides.Follower f) copy (record { query = query; sort = sort }); reply = o.reply }) o))
     (elim found as (λ _. Outcome State) [ None ↦ refused p.state (NoFollower f) | Some follower ↦ search_row p.state copy query sort (copy_of follower.copies copy) ])
-search-at-follower p f copy query sort None all = refused-place p (events.Search (sides.Follower f) copy query sort) (NoFollower f) all
+search-at-follower p f copy query sort None all = refused-place p (events.Search (sides.Follower f) copy (record { query = query; sort = sort })) (NoFollower f) all
 search-at-follower p f copy query sort (Some x) all = search-place p (sides.Follower f) copy copy query sort (copy_of x.copies copy) all
 
 pub retaining-keeps : (p : Past) (event : Event) (picks : List ℕ) → HasGrounds p → NoneHasNext p → Rises p.state (past_by p event picks).state → IsRetaining p → IsRetaining (past_by p event picks)
@@ -128,8 +128,8 @@ retaining-keeps p (events.Restart f) picks grounds fresh up all =
     follower-place p (events.Restart f) f (λ x. restart_row x (task_of x.work)) refl refl (λ reply. refl) grounds (λ x there. restart-moves x (task_of x.work) refl) up all
 retaining-keeps p (events.Unfollow f) picks grounds fresh up all =
     follower-place p (events.Unfollow f) f (λ x. unfollow_row x (task_of x.work)) refl refl (λ reply. refl) grounds (λ x there. unfollow-moves x (task_of x.work) refl) up all
-retaining-keeps p (events.Search sides.Leader copy query sort) picks grounds fresh up all = search-place p sides.Leader copy copy query sort (copy_of p.state.leader.copies copy) all
-retaining-keeps p (events.Search (sides.Follower f) copy query sort) picks grounds fresh up all = search-at-follower p f copy query sort (slice_get p.state.followers f) all
+retaining-keeps p (events.Search sides.Leader copy request) picks grounds fresh up all = search-place p sides.Leader copy copy request.query request.sort (copy_of p.state.leader.copies copy) all
+retaining-keeps p (events.Search (sides.Follower f) copy request) picks grounds fresh up all = search-at-follower p f copy request.query request.sort (slice_get p.state.followers f) all
 retaining-keeps p (events.Status sides.Leader) picks grounds fresh up all =
     leader-quiet p (events.Status sides.Leader) (leader_status p.state.leader) refl (none-begins p (events.Status sides.Leader) _ refl) (history_stays p.state (events.Status sides.Leader) picks refl) refl (status-quiet p.state.leader) grounds all
 retaining-keeps p (events.Status (sides.Follower f)) picks grounds fresh up all =

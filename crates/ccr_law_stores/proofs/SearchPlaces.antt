@@ -125,14 +125,14 @@ follower_says line given restored s copy query keys holds =
 
 leader_answered : (p : Past) (copy : ℕ) (query : Tree) (keys : List SortKey) (found : Option Copy)
     → LeaderSays p.line p.given p.state.leader.copies copy query keys found
-    → AnswersTruly p (events.Search sides.Leader copy query keys) (search_row p.state copy query keys found).reply
+    → AnswersTruly p (events.Search sides.Leader copy (record { query = query; sort = keys })) (search_row p.state copy query keys found).reply
 unfolding search_row
 leader_answered p copy query keys None says = tt
 leader_answered p copy query keys (Some c) says = says
 
 follower_answered : (p : Past) (f copy : ℕ) (query : Tree) (keys : List SortKey) (s : Follower) (found : Option Copy) → slice_get p.state.followers f ≡ Some s
     → FollowerSays (line_of p s.history) (p.followers f).given copy query keys found
-    → AnswersTruly p (events.Search (sides.Follower f) copy query keys) (search_row p.state copy query keys found).reply
+    → AnswersTruly p (events.Search (sides.Follower f) copy (record { query = query; sort = keys })) (search_row p.state copy query keys found).reply
 unfolding search_row
 follower_answered p f copy query keys s None is says = tt
 follower_answered p f copy query keys s (Some c) is says =
@@ -146,16 +146,16 @@ searched_of s f copy query keys found = (elim found as (λ _. Outcome State) [
 ]).reply
 
 at_found : (p : Past) → AreSearchable p → (f copy : ℕ) (query : Tree) (keys : List SortKey) (found : Option Follower) → slice_get p.state.followers f ≡ found
-    → AnswersTruly p (events.Search (sides.Follower f) copy query keys) (searched_of p.state f copy query keys found)
+    → AnswersTruly p (events.Search (sides.Follower f) copy (record { query = query; sort = keys })) (searched_of p.state f copy query keys found)
 at_found p ready f copy query keys None is = tt
 at_found p ready f copy query keys (Some s) is =
     follower_answered p f copy query keys s (copy_of s.copies copy) is
     (follower_says (line_of p s.history) (p.followers f).given (p.followers f).restored s.copies copy query keys (ready.followers f s is))
 
 answered_truly : (p : Past) → AreSearchable p → (event : Event) (picks : List ℕ) → AnswersTruly p event (step p.state event picks).reply
-answered_truly p ready (events.Search sides.Leader copy query keys) picks =
-    leader_answered p copy query keys (copy_of p.state.leader.copies copy) (leader_says p.line p.given p.state.leader.copies copy query keys (living p ready.core) ready.leader)
-answered_truly p ready (events.Search (sides.Follower f) copy query keys) picks = at_found p ready f copy query keys (slice_get p.state.followers f) refl
+answered_truly p ready (events.Search sides.Leader copy request) picks =
+    leader_answered p copy request.query request.sort (copy_of p.state.leader.copies copy) (leader_says p.line p.given p.state.leader.copies copy request.query request.sort (living p ready.core) ready.leader)
+answered_truly p ready (events.Search (sides.Follower f) copy request) picks = at_found p ready f copy request.query request.sort (slice_get p.state.followers f) refl
 answered_truly p ready _ picks = tt
 
 pub at_places : AnswersAtPlaces

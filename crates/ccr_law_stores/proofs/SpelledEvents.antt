@@ -235,10 +235,10 @@ small-keeps p (events.Pause f) picks fits core stores ok = on_followers p f _ ok
 small-keeps p (events.Resume f) picks fits core stores ok = on_followers p f _ ok
 small-keeps p (events.Restart f) picks fits core stores ok = on_followers p f _ ok
 small-keeps p (events.Unfollow f) picks fits core stores ok = on_followers p f _ ok
-small-keeps p (events.Search sides.Leader copy query sort) picks fits core stores ok =
-    kept_by p (step p.state (events.Search sides.Leader copy query sort) picks) (search_keeps p.state copy query sort (copy_of p.state.leader.copies copy)) ok
-small-keeps p (events.Search (sides.Follower f) copy query sort) picks fits core stores ok =
-    kept_by p (step p.state (events.Search (sides.Follower f) copy query sort) picks) (searched_keeps p.state f (search_row p.state copy query sort) copy (slice_get p.state.followers f) (search_keeps p.state copy query sort)) ok
+small-keeps p (events.Search sides.Leader copy request) picks fits core stores ok =
+    kept_by p (step p.state (events.Search sides.Leader copy request) picks) (search_keeps p.state copy request.query request.sort (copy_of p.state.leader.copies copy)) ok
+small-keeps p (events.Search (sides.Follower f) copy request) picks fits core stores ok =
+    kept_by p (step p.state (events.Search (sides.Follower f) copy request) picks) (searched_keeps p.state f (search_row p.state copy request.query request.sort) copy (slice_get p.state.followers f) (search_keeps p.state copy request.query request.sort)) ok
 small-keeps p (events.Status sides.Leader) picks fits core stores ok = status_small p ok
 small-keeps p (events.Status (sides.Follower f)) picks fits core stores ok = on_followers p f _ ok
 small-keeps p events.Settle picks fits core stores ok =

@@ -97,10 +97,10 @@ living_stores-keep p (events.Pause f) picks core old stale ok = on_followers p f
 living_stores-keep p (events.Resume f) picks core old stale ok = on_followers p f _ ok
 living_stores-keep p (events.Restart f) picks core old stale ok = on_followers p f _ ok
 living_stores-keep p (events.Unfollow f) picks core old stale ok = on_followers p f _ ok
-living_stores-keep p (events.Search sides.Leader copy query sort) picks core old stale ok =
-    kept_by p (step p.state (events.Search sides.Leader copy query sort) picks) (search_keeps p.state copy query sort (copy_of p.state.leader.copies copy)) ok
-living_stores-keep p (events.Search (sides.Follower f) copy query sort) picks core old stale ok =
-    kept_by p (step p.state (events.Search (sides.Follower f) copy query sort) picks) (searched_keeps p.state f (search_row p.state copy query sort) copy (slice_get p.state.followers f) (search_keeps p.state copy query sort)) ok
+living_stores-keep p (events.Search sides.Leader copy request) picks core old stale ok =
+    kept_by p (step p.state (events.Search sides.Leader copy request) picks) (search_keeps p.state copy request.query request.sort (copy_of p.state.leader.copies copy)) ok
+living_stores-keep p (events.Search (sides.Follower f) copy request) picks core old stale ok =
+    kept_by p (step p.state (events.Search (sides.Follower f) copy request) picks) (searched_keeps p.state f (search_row p.state copy request.query request.sort) copy (slice_get p.state.followers f) (search_keeps p.state copy request.query request.sort)) ok
 living_stores-keep p (events.Status sides.Leader) picks core old stale ok = status_keeps p ok
 living_stores-keep p (events.Status (sides.Follower f)) picks core old stale ok = on_followers p f _ ok
 living_stores-keep p events.Settle picks core old stale ok =

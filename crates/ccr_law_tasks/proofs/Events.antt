@@ -307,8 +307,8 @@ each-event p (events.Restart f) picks ops next later frames runs fit now =
 each-event p (events.Unfollow f) picks ops next later frames runs fit now =
     by-follower p (events.Unfollow f) ops next p.state.flight f (λ x. unfollow_row x (task_of x.work)) (λ f old reply. refl)
     (λ s there good. unfollow-row next (p.followers f).begun_at (p.followers f).written s (task_of s.work) refl good) now
-each-event p (events.Search side copy query sort) picks ops next later frames runs fit now =
-    by-search-at p (events.Search side copy query sort) ops next side copy query sort (λ f old reply. refl) now
+each-event p (events.Search side copy request) picks ops next later frames runs fit now =
+    by-search-at p (events.Search side copy request) ops next side copy request.query request.sort (λ f old reply. refl) now
 each-event p (events.Status sides.Leader) picks ops next later frames runs fit now =
     by-leader p (events.Status sides.Leader) ops next p.state.flight (leader_status p.state.leader) (λ f old reply. refl) now
 each-event p (events.Status (sides.Follower f)) picks ops next later frames runs fit now =

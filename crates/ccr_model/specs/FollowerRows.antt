@@ -10,6 +10,7 @@ use Rattle.ccr_wire.specs.declared.content.Content.TheVariants as contents
 use Rattle.ccr_op.specs.Sameness.{same_operations}
 use Rattle.ccr_journal.specs.declared.sides.Phase.{Phase}
 use Rattle.ccr_journal.specs.declared.sides.Phase.TheVariants as phases
+use Rattle.ccr_journal.specs.declared.statuses.FollowerStatus.{FollowerStatus}
 use Rattle.ccr_journal.specs.declared.replies.Reply.{Reply}
 use Rattle.ccr_journal.specs.declared.replies.Reply.TheVariants as replies
 use Rattle.ccr_journal.specs.declared.replies.Heard.TheVariants as heard
@@ -265,6 +266,16 @@ abbrev pub loads : Work → ℕ × ℕ × ℕ
 loads (restoring r) = (0, 0, 0)
 loads (replicating t) = (length t.reads, length t.buffer, length t.writes)
 
+abbrev pub status_of_follower : Follower → FollowerStatus
+status_of_follower s = record {
+  phase = phase_of_work s.work;
+  epoch = s.epoch;
+  term = s.copies.term;
+  copies = statuses_of s.copies;
+  reads = (loads s.work).0;
+  buffer = (loads s.work).1;
+  writes = (loads s.work).2;
+}
+
 unfoldable pub follower_status_row : Follower → Outcome Follower
-follower_status_row s =
-    answered (replies.FollowerStatus (phase_of_work s.work) s.epoch s.copies.term (statuses_of s.copies) (loads s.work).0 (loads s.work).1 (loads s.work).2) s
+follower_status_row s = answered (replies.FollowerStatus (status_of_follower s)) s

@@ -59,10 +59,10 @@ abbrev pub IsResynced : Copies → ℕ → Type 0
 IsResynced s copy = (s.primary.number ≡ copy) ⊎ (option_map_or (λ (r : Replica). r.resynced) (replica_of s copy) false ≡ true)
 
 abbrev pub AnswersTruly : Past → Event → Reply → Type 0
-AnswersTruly p (events.Search sides.Leader copy query keys) (replies.Found answer) =
-    AnswersBy p.line (p.given copy) (IsResynced p.state.leader.copies copy) query keys answer
-AnswersTruly p (events.Search (sides.Follower f) copy query keys) (replies.Found answer) =
-    IfSome (slice_get p.state.followers f) (λ s. AnswersBy (line_of p s.history) ((p.followers f).given copy) (Unit {0}) query keys answer)
+AnswersTruly p (events.Search sides.Leader copy request) (replies.Found answer) =
+    AnswersBy p.line (p.given copy) (IsResynced p.state.leader.copies copy) request.query request.sort answer
+AnswersTruly p (events.Search (sides.Follower f) copy request) (replies.Found answer) =
+    IfSome (slice_get p.state.followers f) (λ s. AnswersBy (line_of p s.history) ((p.followers f).given copy) (Unit {0}) request.query request.sort answer)
 AnswersTruly p _ _ = Unit {0}
 
 -- ---- retention

@@ -70,7 +70,7 @@ step s (events.Pause f) picks = on_follower s f (λ x. pause_row x (task_of x.wo
 step s (events.Resume f) picks = on_follower s f (λ x. resume_row x (task_of x.work))
 step s (events.Restart f) picks = on_follower s f (λ x. restart_row x (task_of x.work))
 step s (events.Unfollow f) picks = on_follower s f (λ x. unfollow_row x (task_of x.work))
-step s (events.Search side copy query sort) picks = searched_at s side copy (search_row s copy query sort)
+step s (events.Search side copy request) picks = searched_at s side copy (search_row s copy request.query request.sort)
 step s (events.Status side) picks = on_side s side leader_status follower_status_row
 step s events.Settle picks = guarded s ((not (is_settled s), NotSettled) ∷ []) (answered replies.Settled s)
 

@@ -9,7 +9,7 @@ use Rattle.ccr_journal.specs.declared.replies.Heard.TheVariants as heard
 use Rattle.ccr_journal.specs.declared.replies.Reply.TheVariants as replies
 use Rattle.ccr_journal.specs.declared.replies.WriteResult.TheVariants as written
 use Rattle.ccr_model.specs.Leaders.{Start}
-use Rattle.ccr_model_journals.specs.Words.{begun, entry, index, params, request, status, wrote}
+use Rattle.ccr_model_journals.specs.Words.{begun, entry, follower_status, index, params, request, status, wrote}
 
 abbrev pub batches_and_reads_start : Start
 batches_and_reads_start = begun 1 7 1000000 0
@@ -32,14 +32,14 @@ batches_and_reads_entries =
     entry (events.Deliver 0 0 false) (replies.Heard heard.Done) ∷
     entry (events.Deliver 0 0 false) (replies.Heard heard.Done) ∷
     entry (events.Write (request (codes "c") None (Some (codes "{\"n\":1}")) false None)) (replies.Written (wrote 6 1 1 written.Created)) ∷
-    entry (events.Status (sides.Follower 0)) (replies.FollowerStatus phases.Active 1 1 (status 0 1 1 0 1 ∷ []) 1 0 1) ∷
+    entry (events.Status (sides.Follower 0)) (replies.FollowerStatus (follower_status phases.Active 1 1 (status 0 1 1 0 1 ∷ []) 1 0 1)) ∷
     entry (events.Deliver 0 0 false) (replies.Heard heard.Done) ∷
     entry (events.Deliver 0 0 false) (replies.Heard heard.Done) ∷
-    entry (events.Status (sides.Follower 0)) (replies.FollowerStatus phases.Active 1 1 (status 0 1 1 0 1 ∷ []) 1 3 1) ∷
+    entry (events.Status (sides.Follower 0)) (replies.FollowerStatus (follower_status phases.Active 1 1 (status 0 1 1 0 1 ∷ []) 1 3 1)) ∷
     entry (events.Take 0 0) (replies.Took (index 1 1 1 (codes "b") None (codes "{\"n\":0}") ∷ index 2 1 2 (codes "b") None (codes "{\"n\":1}") ∷ index 3 1 3 (codes "b") None (codes "{\"n\":2}") ∷ [])) ∷
     entry (events.Apply 0 1 0 (index 1 1 1 (codes "b") None (codes "{\"n\":0}") ∷ index 2 1 2 (codes "b") None (codes "{\"n\":1}") ∷ index 3 1 3 (codes "b") None (codes "{\"n\":2}") ∷ [])) (replies.Applied 3) ∷
     entry (events.Written 0 0) replies.Done ∷
     entry (events.Take 0 1) (replies.Took (index 4 1 4 (codes "b") None (codes "{\"n\":3}") ∷ index 5 1 5 (codes "b") None (codes "{\"n\":4}") ∷ index 6 1 1 (codes "c") None (codes "{\"n\":1}") ∷ [])) ∷
     entry (events.Apply 0 1 1 (index 4 1 4 (codes "b") None (codes "{\"n\":3}") ∷ index 5 1 5 (codes "b") None (codes "{\"n\":4}") ∷ index 6 1 1 (codes "c") None (codes "{\"n\":1}") ∷ [])) (replies.Applied 3) ∷
-    entry (events.Status (sides.Follower 0)) (replies.FollowerStatus phases.Active 1 1 (status 0 7 7 0 7 ∷ []) 1 0 1) ∷
+    entry (events.Status (sides.Follower 0)) (replies.FollowerStatus (follower_status phases.Active 1 1 (status 0 7 7 0 7 ∷ []) 1 0 1)) ∷
     []

@@ -10,7 +10,7 @@ use Rattle.ccr_journal.specs.declared.replies.Heard.TheVariants as heard
 use Rattle.ccr_journal.specs.declared.replies.Reply.TheVariants as replies
 use Rattle.ccr_journal.specs.declared.replies.WriteResult.TheVariants as written
 use Rattle.ccr_model.specs.Leaders.{Start}
-use Rattle.ccr_model_journals.specs.Words.{begun, entry, found, hit, params, request, wrote}
+use Rattle.ccr_model_journals.specs.Words.{begun, entry, found, hit, params, request, search_for, wrote}
 
 abbrev pub chunks_start : Start
 chunks_start = begun 1 233123597930171938637576872671869459266 43200000 0
@@ -46,5 +46,5 @@ chunks_entries =
     entry (events.Deliver 0 0 false) (replies.Heard heard.Done) ∷
     entry (events.Deliver 0 0 false) (replies.Heard heard.Parked) ∷
     entry events.Settle replies.Settled ∷
-    entry (events.Search (sides.Follower 0) 0 (condition conditions.MatchAll) []) (replies.Found (found 1 false (hit (codes "a") None (codes "{\"n\":1}") ∷ []))) ∷
+    entry (events.Search (sides.Follower 0) 0 (search_for (condition conditions.MatchAll) [])) (replies.Found (found 1 false (hit (codes "a") None (codes "{\"n\":1}") ∷ []))) ∷
     []

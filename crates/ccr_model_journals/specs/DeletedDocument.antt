@@ -11,7 +11,7 @@ use Rattle.ccr_journal.specs.declared.replies.Heard.TheVariants as heard
 use Rattle.ccr_journal.specs.declared.replies.Reply.TheVariants as replies
 use Rattle.ccr_journal.specs.declared.replies.WriteResult.TheVariants as written
 use Rattle.ccr_model.specs.Leaders.{Start}
-use Rattle.ccr_model_journals.specs.Words.{begun, default_params, entry, found, request, status, wrote}
+use Rattle.ccr_model_journals.specs.Words.{begun, default_params, entry, follower_status, found, request, search_for, status, wrote}
 
 abbrev pub deleted_document_start : Start
 deleted_document_start = begun 1 233123597930171938637576872671869459266 43200000 0
@@ -29,6 +29,6 @@ deleted_document_entries =
     entry (events.Deliver 0 0 false) (replies.Heard heard.Done) ∷
     entry (events.Deliver 0 0 false) (replies.Heard heard.Parked) ∷
     entry events.Settle replies.Settled ∷
-    entry (events.Search (sides.Follower 0) 0 (condition conditions.MatchAll) []) (replies.Found (found 2 false [])) ∷
-    entry (events.Status (sides.Follower 0)) (replies.FollowerStatus phases.Active 1 1 (status 0 2 2 0 0 ∷ []) 1 0 0) ∷
+    entry (events.Search (sides.Follower 0) 0 (search_for (condition conditions.MatchAll) [])) (replies.Found (found 2 false [])) ∷
+    entry (events.Status (sides.Follower 0)) (replies.FollowerStatus (follower_status phases.Active 1 1 (status 0 2 2 0 0 ∷ []) 1 0 0)) ∷
     []

@@ -12,7 +12,7 @@ use Rattle.ccr_journal.specs.declared.replies.Refusal.TheVariants as refusals
 use Rattle.ccr_journal.specs.declared.replies.Reply.TheVariants as replies
 use Rattle.ccr_journal.specs.declared.replies.WriteResult.TheVariants as written
 use Rattle.ccr_model.specs.Leaders.{Start}
-use Rattle.ccr_model_journals.specs.Words.{begun, entry, index, lease, params, request, status, wrote}
+use Rattle.ccr_model_journals.specs.Words.{begun, entry, follower_status, index, lease, params, request, search_for, status, wrote}
 
 abbrev pub each_refusal_of_a_follower_start : Start
 each_refusal_of_a_follower_start = begun 2 7 100 0
@@ -33,7 +33,7 @@ each_refusal_of_a_follower_entries =
     entry (events.Unfollow 0) (replies.Refused (refusals.NoFollower 0)) ∷
     entry (events.Status (sides.Follower 0)) (replies.Refused (refusals.NoFollower 0)) ∷
     entry (events.Clock (sides.Follower 0) 1) (replies.Refused (refusals.NoFollower 0)) ∷
-    entry (events.Search (sides.Follower 0) 0 (condition conditions.MatchAll) []) (replies.Refused (refusals.NoFollower 0)) ∷
+    entry (events.Search (sides.Follower 0) 0 (search_for (condition conditions.MatchAll) [])) (replies.Refused (refusals.NoFollower 0)) ∷
     entry (events.AddCopy (sides.Follower 0)) (replies.Refused (refusals.NoFollower 0)) ∷
     entry (events.Drop 0) (replies.Refused (refusals.NoFrame 0)) ∷
     entry (events.Write (request (codes "a") None (Some (codes "{\"n\":1}")) false None)) (replies.Written (wrote 0 1 1 written.Created)) ∷
@@ -47,7 +47,7 @@ each_refusal_of_a_follower_entries =
     entry (events.Merge sides.Leader 9) (replies.Refused (refusals.NoCopy 9)) ∷
     entry (events.Resync 9) (replies.Refused (refusals.NoCopy 9)) ∷
     entry (events.Resync 0) (replies.Refused (refusals.IsPrimary 0)) ∷
-    entry (events.Search sides.Leader 9 (condition conditions.MatchAll) []) (replies.Refused (refusals.NoCopy 9)) ∷
+    entry (events.Search sides.Leader 9 (search_for (condition conditions.MatchAll) [])) (replies.Refused (refusals.NoCopy 9)) ∷
     entry (events.FailCopy sides.Leader 9) (replies.Refused (refusals.NoCopy 9)) ∷
     entry (events.Follow (params 2 1000 2 2 1000 2 4 1000 100 50 64) 2 (codes "n")) replies.Done ∷
     entry (events.Follow (params 2 1000 2 2 1000 2 4 1000 100 50 64) 1 (codes "n")) (replies.Refused (refusals.SameName 0)) ∷
@@ -69,7 +69,7 @@ each_refusal_of_a_follower_entries =
     entry (events.Deliver 2 0 false) (replies.Heard heard.Done) ∷
     entry (events.Deliver 2 0 false) (replies.Heard heard.Done) ∷
     entry (events.Deliver 2 0 false) (replies.Heard heard.Done) ∷
-    entry (events.Status (sides.Follower 0)) (replies.FollowerStatus phases.Active 1 1 (status 0 1 1 0 1 ∷ status 1 1 1 0 1 ∷ []) 1 0 0) ∷
+    entry (events.Status (sides.Follower 0)) (replies.FollowerStatus (follower_status phases.Active 1 1 (status 0 1 1 0 1 ∷ status 1 1 1 0 1 ∷ []) 1 0 0)) ∷
     entry (events.Deliver 2 1 false) (replies.Heard heard.Parked) ∷
     entry (events.Write (request (codes "b") None (Some (codes "{\"n\":2}")) false None)) (replies.Written (wrote 1 1 1 written.Created)) ∷
     entry (events.Write (request (codes "a") None (Some (codes "{\"n\":3}")) false None)) (replies.Written (wrote 2 1 2 written.Updated)) ∷
@@ -94,7 +94,7 @@ each_refusal_of_a_follower_entries =
     entry (events.Replicate (sides.Follower 0) 1 7) (replies.Refused (refusals.NoOperation 7)) ∷
     entry (events.Flush (sides.Follower 0) 9) (replies.Refused (refusals.NoCopy 9)) ∷
     entry (events.Merge (sides.Follower 0) 9) (replies.Refused (refusals.NoCopy 9)) ∷
-    entry (events.Search (sides.Follower 0) 9 (condition conditions.MatchAll) []) (replies.Refused (refusals.NoCopy 9)) ∷
+    entry (events.Search (sides.Follower 0) 9 (search_for (condition conditions.MatchAll) [])) (replies.Refused (refusals.NoCopy 9)) ∷
     entry (events.FailCopy (sides.Follower 0) 0) (replies.Refused (refusals.IsPrimary 0)) ∷
     entry (events.FailCopy (sides.Follower 0) 9) (replies.Refused (refusals.NoCopy 9)) ∷
     entry (events.Ack (sides.Follower 0) 0) (replies.Refused (refusals.IsPrimary 0)) ∷
@@ -114,11 +114,11 @@ each_refusal_of_a_follower_entries =
     entry (events.FailCopy (sides.Follower 0) 0) (replies.Refused (refusals.LastCopy 0)) ∷
     entry (events.Flush (sides.Follower 0) 0) (replies.Flushed 3) ∷
     entry (events.Merge (sides.Follower 0) 0) (replies.Merged 3 0 []) ∷
-    entry (events.Status (sides.Follower 0)) (replies.FollowerStatus phases.Active 1 1 (status 0 3 3 3 3 ∷ []) 1 0 0) ∷
+    entry (events.Status (sides.Follower 0)) (replies.FollowerStatus (follower_status phases.Active 1 1 (status 0 3 3 3 3 ∷ []) 1 0 0)) ∷
     entry (events.Restart 0) replies.Done ∷
-    entry (events.Status (sides.Follower 0)) (replies.FollowerStatus phases.Active 2 1 (status 0 3 3 3 3 ∷ []) 1 0 0) ∷
+    entry (events.Status (sides.Follower 0)) (replies.FollowerStatus (follower_status phases.Active 2 1 (status 0 3 3 3 3 ∷ []) 1 0 0)) ∷
     entry (events.Pause 0) replies.Done ∷
-    entry (events.Status (sides.Follower 0)) (replies.FollowerStatus phases.Paused 2 1 (status 0 3 3 3 3 ∷ []) 0 0 0) ∷
+    entry (events.Status (sides.Follower 0)) (replies.FollowerStatus (follower_status phases.Paused 2 1 (status 0 3 3 3 3 ∷ []) 0 0 0)) ∷
     entry (events.Resume 0) replies.Done ∷
     entry (events.Renew 0) replies.Done ∷
     entry (events.Promote sides.Leader 1) (replies.Promoted 2 0) ∷
@@ -149,6 +149,6 @@ each_refusal_of_a_follower_entries =
     entry (events.Pause 0) replies.Done ∷
     entry (events.Resume 0) (replies.Refused refusals.NotPaused) ∷
     entry (events.Unfollow 0) replies.Done ∷
-    entry (events.Status (sides.Follower 0)) (replies.FollowerStatus phases.Unfollowed 3 1 (status 0 3 3 3 3 ∷ []) 0 0 0) ∷
+    entry (events.Status (sides.Follower 0)) (replies.FollowerStatus (follower_status phases.Unfollowed 3 1 (status 0 3 3 3 3 ∷ []) 0 0 0)) ∷
     entry (events.Status sides.Leader) (replies.LeaderStatus 3 (status 2 3 3 0 3 ∷ status 3 3 3 0 3 ∷ status 4 3 3 0 3 ∷ status 5 3 3 0 3 ∷ status 6 3 3 0 3 ∷ status 7 3 3 0 3 ∷ status 8 3 3 0 3 ∷ status 9 3 3 0 3 ∷ []) []) ∷
     []

@@ -9,7 +9,7 @@ use Rattle.ccr_journal.specs.declared.replies.Heard.TheVariants as heard
 use Rattle.ccr_journal.specs.declared.replies.Reply.TheVariants as replies
 use Rattle.ccr_journal.specs.declared.replies.WriteResult.TheVariants as written
 use Rattle.ccr_model.specs.Leaders.{Start}
-use Rattle.ccr_model_journals.specs.Words.{begun, default_params, entry, gone, request, status, wrote}
+use Rattle.ccr_model_journals.specs.Words.{begun, default_params, entry, follower_status, gone, request, status, wrote}
 
 abbrev pub expired_lease_start : Start
 expired_lease_start = begun 1 233123597930171938637576872671869459266 500 0
@@ -32,5 +32,5 @@ expired_lease_entries =
     entry (events.Merge sides.Leader 0) (replies.Merged 2 1 (0 ∷ [])) ∷
     entry (events.Wake 0 0) (replies.Heard (heard.Missing 0 2)) ∷
     entry (events.Deliver 0 0 false) (replies.Heard heard.StoppedMissing) ∷
-    entry (events.Status (sides.Follower 0)) (replies.FollowerStatus phases.Missing 1 1 (status 0 0 0 0 0 ∷ []) 0 0 0) ∷
+    entry (events.Status (sides.Follower 0)) (replies.FollowerStatus (follower_status phases.Missing 1 1 (status 0 0 0 0 0 ∷ []) 0 0 0)) ∷
     []

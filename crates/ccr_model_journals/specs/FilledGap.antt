@@ -9,7 +9,7 @@ use Rattle.ccr_journal.specs.declared.replies.Heard.TheVariants as heard
 use Rattle.ccr_journal.specs.declared.replies.Reply.TheVariants as replies
 use Rattle.ccr_journal.specs.declared.replies.WriteResult.TheVariants as written
 use Rattle.ccr_model.specs.Leaders.{Start}
-use Rattle.ccr_model_journals.specs.Words.{begun, default_params, entry, found, hit, lease, request, status, wrote}
+use Rattle.ccr_model_journals.specs.Words.{begun, default_params, entry, found, hit, lease, request, search_for, status, wrote}
 
 abbrev pub filled_gap_start : Start
 filled_gap_start = begun 2 233123597930171938637576872671869459266 43200000 0
@@ -35,5 +35,5 @@ filled_gap_entries =
     entry (events.Replicate sides.Leader 1 4) replies.Done ∷
     entry (events.Promote sides.Leader 1) (replies.Promoted 2 1) ∷
     entry (events.Status sides.Leader) (replies.LeaderStatus 2 (status 1 5 5 0 5 ∷ []) (lease (codes "b/f/0d4c2c54-b543-5c37-9e34-0a9608dd1386-following-a/l/223c283b-627d-5bac-9463-bf337a05a8ea") 0 0 ∷ [])) ∷
-    entry (events.Search sides.Leader 1 (condition conditions.MatchAll) []) (replies.Found (found 5 false (hit (codes "a") None (codes "{\"n\":1}") ∷ hit (codes "b") None (codes "{\"n\":1}") ∷ hit (codes "c") None (codes "{\"n\":1}") ∷ hit (codes "e") None (codes "{\"n\":1}") ∷ []))) ∷
+    entry (events.Search sides.Leader 1 (search_for (condition conditions.MatchAll) [])) (replies.Found (found 5 false (hit (codes "a") None (codes "{\"n\":1}") ∷ hit (codes "b") None (codes "{\"n\":1}") ∷ hit (codes "c") None (codes "{\"n\":1}") ∷ hit (codes "e") None (codes "{\"n\":1}") ∷ []))) ∷
     []

@@ -11,7 +11,7 @@ use Rattle.ccr_journal.specs.declared.replies.Refusal.TheVariants as refusals
 use Rattle.ccr_journal.specs.declared.replies.Reply.TheVariants as replies
 use Rattle.ccr_journal.specs.declared.replies.WriteResult.TheVariants as written
 use Rattle.ccr_model.specs.Leaders.{Start}
-use Rattle.ccr_model_journals.specs.Words.{begun, default_params, entry, found, hit, index, request, wrote}
+use Rattle.ccr_model_journals.specs.Words.{begun, default_params, entry, found, hit, index, request, search_for, wrote}
 
 abbrev pub follower_failover_start : Start
 follower_failover_start = begun 1 233123597930171938637576872671869459266 43200000 0
@@ -31,11 +31,11 @@ follower_failover_entries =
     entry (events.Take 0 0) (replies.Took (index 0 1 1 (codes "a") None (codes "{\"n\":1}") ∷ [])) ∷
     entry (events.Apply 0 1 0 (index 0 1 1 (codes "a") None (codes "{\"n\":1}") ∷ [])) (replies.Applied 1) ∷
     entry (events.Written 0 0) (replies.Refused (refusals.NotWritten 1)) ∷
-    entry (events.Search (sides.Follower 0) 1 (condition conditions.MatchAll) []) (replies.Found (found 0 false [])) ∷
+    entry (events.Search (sides.Follower 0) 1 (search_for (condition conditions.MatchAll) [])) (replies.Found (found 0 false [])) ∷
     entry (events.Promote (sides.Follower 0) 1) (replies.Promoted 2 0) ∷
-    entry (events.Search (sides.Follower 0) 1 (condition conditions.MatchAll) []) (replies.Found (found 0 false [])) ∷
+    entry (events.Search (sides.Follower 0) 1 (search_for (condition conditions.MatchAll) [])) (replies.Found (found 0 false [])) ∷
     entry (events.Take 0 0) (replies.Took (index 0 1 1 (codes "a") None (codes "{\"n\":1}") ∷ [])) ∷
     entry (events.Apply 0 1 0 (index 0 1 1 (codes "a") None (codes "{\"n\":1}") ∷ [])) (replies.Applied 1) ∷
     entry (events.Written 0 0) replies.Done ∷
-    entry (events.Search (sides.Follower 0) 1 (condition conditions.MatchAll) []) (replies.Found (found 1 false (hit (codes "a") None (codes "{\"n\":1}") ∷ []))) ∷
+    entry (events.Search (sides.Follower 0) 1 (search_for (condition conditions.MatchAll) [])) (replies.Found (found 1 false (hit (codes "a") None (codes "{\"n\":1}") ∷ []))) ∷
     []

@@ -11,7 +11,7 @@ use Rattle.ccr_journal.specs.declared.replies.Refusal.TheVariants as refusals
 use Rattle.ccr_journal.specs.declared.replies.Reply.TheVariants as replies
 use Rattle.ccr_journal.specs.declared.replies.WriteResult.TheVariants as written
 use Rattle.ccr_model.specs.Leaders.{Start}
-use Rattle.ccr_model_journals.specs.Words.{begun, default_params, entry, found, hit, index, request, status, wrote}
+use Rattle.ccr_model_journals.specs.Words.{begun, default_params, entry, follower_status, found, hit, index, request, search_for, status, wrote}
 
 abbrev pub forced_promotion_start : Start
 forced_promotion_start = begun 2 233123597930171938637576872671869459266 43200000 0
@@ -50,8 +50,8 @@ forced_promotion_entries =
     entry (events.Deliver 0 1 false) (replies.Heard heard.History) ∷
     entry (events.Deliver 0 1 false) (replies.Heard heard.StoppedHistory) ∷
     entry events.Settle replies.Settled ∷
-    entry (events.Search (sides.Follower 0) 0 (condition conditions.MatchAll) []) (replies.Found (found 1 false (hit (codes "a") None (codes "{\"n\":1}") ∷ []))) ∷
-    entry (events.Status (sides.Follower 0)) (replies.FollowerStatus phases.History 1 1 (status 0 1 1 0 1 ∷ status 1 1 1 0 1 ∷ []) 0 0 0) ∷
-    entry (events.Search sides.Leader 1 (condition conditions.MatchAll) []) (replies.Found (found 1 false (hit (codes "a") None (codes "{\"n\":1}") ∷ []))) ∷
+    entry (events.Search (sides.Follower 0) 0 (search_for (condition conditions.MatchAll) [])) (replies.Found (found 1 false (hit (codes "a") None (codes "{\"n\":1}") ∷ []))) ∷
+    entry (events.Status (sides.Follower 0)) (replies.FollowerStatus (follower_status phases.History 1 1 (status 0 1 1 0 1 ∷ status 1 1 1 0 1 ∷ []) 0 0 0)) ∷
+    entry (events.Search sides.Leader 1 (search_for (condition conditions.MatchAll) [])) (replies.Found (found 1 false (hit (codes "a") None (codes "{\"n\":1}") ∷ []))) ∷
     entry (events.Unfollow 0) replies.Done ∷
     []

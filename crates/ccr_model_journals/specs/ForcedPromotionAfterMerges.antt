@@ -13,7 +13,7 @@ use Rattle.ccr_journal.specs.declared.replies.Refusal.TheVariants as refusals
 use Rattle.ccr_journal.specs.declared.replies.Reply.TheVariants as replies
 use Rattle.ccr_journal.specs.declared.replies.WriteResult.TheVariants as written
 use Rattle.ccr_model.specs.Leaders.{Start}
-use Rattle.ccr_model_journals.specs.Words.{begun, entry, found, hit, key, params, request, status, wrote}
+use Rattle.ccr_model_journals.specs.Words.{begun, entry, follower_status, found, hit, key, params, request, search_for, status, wrote}
 
 abbrev pub forced_promotion_after_merges_start : Start
 forced_promotion_after_merges_start = begun 3 233123597930171938637576872671869459266 43200000 0
@@ -22,7 +22,7 @@ abbrev pub forced_promotion_after_merges_entries : List Entry
 forced_promotion_after_merges_entries =
     entry (events.Follow (params 1 33554432 12 1 1 2 2147483647 536870912 60 60000 1) 3 (codes "b/f/0d4c2c54-b543-5c37-9e34-0a9608dd1386-following-a/l/223c283b-627d-5bac-9463-bf337a05a8ea")) replies.Done ∷
     entry (events.Deliver 0 1 false) (replies.Heard (heard.Waiting 1)) ∷
-    entry (events.Search (sides.Follower 0) 0 (condition conditions.MatchAll) []) (replies.Found (found 0 false [])) ∷
+    entry (events.Search (sides.Follower 0) 0 (search_for (condition conditions.MatchAll) [])) (replies.Found (found 0 false [])) ∷
     entry (events.Write (request (codes "b") None (Some (codes "{\"n\":7}")) false None)) (replies.Written (wrote 0 1 1 written.Created)) ∷
     entry (events.Write (request (codes "d") None (Some (codes "{\"n\":9}")) false None)) (replies.Written (wrote 1 1 1 written.Created)) ∷
     entry (events.Write (request (codes "c") None (Some (codes "{\"n\":2}")) false None)) (replies.Written (wrote 2 1 1 written.Created)) ∷
@@ -41,7 +41,7 @@ forced_promotion_after_merges_entries =
     entry (events.Lose 0 0) replies.Done ∷
     entry (events.Merge (sides.Follower 0) 0) (replies.Merged 0 0 []) ∷
     entry (events.Write (request (codes "a") None (Some (codes "{\"n\":8}")) false None)) (replies.Written (wrote 7 1 2 written.Updated)) ∷
-    entry (events.Status (sides.Follower 0)) (replies.FollowerStatus phases.Leasing 0 1 (status 0 0 0 0 0 ∷ status 1 0 0 0 0 ∷ status 2 0 0 0 0 ∷ []) 0 0 0) ∷
+    entry (events.Status (sides.Follower 0)) (replies.FollowerStatus (follower_status phases.Leasing 0 1 (status 0 0 0 0 0 ∷ status 1 0 0 0 0 ∷ status 2 0 0 0 0 ∷ []) 0 0 0)) ∷
     entry (events.Write (request (codes "c") None (Some (codes "{\"n\":1}")) false None)) (replies.Written (wrote 8 1 4 written.Updated)) ∷
     entry (events.Deliver 2 0 false) (replies.Refused (refusals.NoFrame 2)) ∷
     entry (events.FailCopy sides.Leader 2) replies.Done ∷
@@ -56,7 +56,7 @@ forced_promotion_after_merges_entries =
     entry (events.Replicate sides.Leader 1 10) replies.Done ∷
     entry (events.Deliver 0 0 false) (replies.Heard (heard.Waiting 1)) ∷
     entry (events.Write (request (codes "a") None (Some (codes "{\"n\":8}")) false None)) (replies.Written (wrote 11 1 3 written.Updated)) ∷
-    entry (events.Search sides.Leader 0 (condition conditions.MatchAll) (key (codes "n") orders.Asc ∷ [])) (replies.Found (found 12 false (hit (codes "b") None (codes "{\"n\":7}") ∷ hit (codes "a") None (codes "{\"n\":8}") ∷ hit (codes "c") None (codes "{\"n\":9}") ∷ hit (codes "d") None (codes "{\"n\":9}") ∷ []))) ∷
+    entry (events.Search sides.Leader 0 (search_for (condition conditions.MatchAll) (key (codes "n") orders.Asc ∷ []))) (replies.Found (found 12 false (hit (codes "b") None (codes "{\"n\":7}") ∷ hit (codes "a") None (codes "{\"n\":8}") ∷ hit (codes "c") None (codes "{\"n\":9}") ∷ hit (codes "d") None (codes "{\"n\":9}") ∷ []))) ∷
     entry (events.AddCopy (sides.Follower 0)) (replies.Refused refusals.Bootstrapping) ∷
     entry (events.Write (request (codes "b") None (Some (codes "{\"n\":4}")) false None)) (replies.Written (wrote 12 1 4 written.Updated)) ∷
     entry (events.Write (request (codes "a") None (Some (codes "{\"n\":6}")) true None)) (replies.Refused (refusals.Exists 11)) ∷
@@ -67,7 +67,7 @@ forced_promotion_after_merges_entries =
     entry (events.Flush sides.Leader 2) (replies.Flushed 1) ∷
     entry (events.Take 0 1) (replies.Refused (refusals.NoBatch 1)) ∷
     entry (events.Apply 0 0 1 []) (replies.Refused (refusals.NoBatch 1)) ∷
-    entry (events.Status (sides.Follower 0)) (replies.FollowerStatus phases.Leasing 0 1 (status 0 0 0 0 0 ∷ status 1 0 0 0 0 ∷ status 2 0 0 0 0 ∷ []) 0 0 0) ∷
+    entry (events.Status (sides.Follower 0)) (replies.FollowerStatus (follower_status phases.Leasing 0 1 (status 0 0 0 0 0 ∷ status 1 0 0 0 0 ∷ status 2 0 0 0 0 ∷ []) 0 0 0)) ∷
     entry (events.Merge sides.Leader 2) (replies.Merged 1 0 (0 ∷ [])) ∷
     entry (events.Replicate sides.Leader 2 1) (replies.Refused (refusals.IsPrimary 2)) ∷
     entry (events.Write (request (codes "b") None (Some (codes "{\"n\":9}")) false None)) (replies.Written (wrote 1 2 2 written.Updated)) ∷

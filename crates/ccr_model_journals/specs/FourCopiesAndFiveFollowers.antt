@@ -13,7 +13,7 @@ use Rattle.ccr_journal.specs.declared.replies.Refusal.TheVariants as refusals
 use Rattle.ccr_journal.specs.declared.replies.Reply.TheVariants as replies
 use Rattle.ccr_journal.specs.declared.replies.WriteResult.TheVariants as written
 use Rattle.ccr_model.specs.Leaders.{Start}
-use Rattle.ccr_model_journals.specs.Words.{begun, entry, found, gone, index, key, lease, params, request, status, wrote}
+use Rattle.ccr_model_journals.specs.Words.{begun, entry, follower_status, found, gone, index, key, lease, params, request, search_for, status, wrote}
 
 abbrev pub four_copies_and_five_followers_start : Start
 four_copies_and_five_followers_start = begun 4 238093196691738063576597003065483410332 500 0
@@ -98,7 +98,7 @@ four_copies_and_five_followers_entries =
     entry (events.Replicate sides.Leader 3 3) replies.Done ∷
     entry (events.Replicate sides.Leader 3 4) replies.Done ∷
     entry (events.Sync sides.Leader 3) replies.Done ∷
-    entry (events.Search sides.Leader 1 (condition (conditions.Exists (codes "o.p.q"))) (key (codes "n") orders.Desc ∷ key (codes "o") orders.Asc ∷ [])) (replies.Found (found 2 false [])) ∷
+    entry (events.Search sides.Leader 1 (search_for (condition (conditions.Exists (codes "o.p.q"))) (key (codes "n") orders.Desc ∷ key (codes "o") orders.Asc ∷ []))) (replies.Found (found 2 false [])) ∷
     entry (events.Resync 2) (replies.Resynced 0 0) ∷
     entry (events.Tick 1) replies.Done ∷
     entry (events.Replicate sides.Leader 1 2) replies.Done ∷
@@ -234,8 +234,8 @@ four_copies_and_five_followers_entries =
     entry (events.Deliver 0 0 false) (replies.Heard heard.Parked) ∷
     entry events.Settle replies.Settled ∷
     entry (events.Status sides.Leader) (replies.LeaderStatus 1 (status 0 7 7 0 7 ∷ status 1 7 7 0 7 ∷ status 2 7 7 0 7 ∷ status 3 7 7 0 7 ∷ []) (lease (codes "z/4-following") 0 501 ∷ [])) ∷
-    entry (events.Status (sides.Follower 0)) (replies.FollowerStatus phases.Active 1 1 (status 0 7 7 0 7 ∷ []) 1 0 0) ∷
-    entry (events.Status (sides.Follower 1)) (replies.FollowerStatus phases.Active 1 1 (status 0 7 7 0 7 ∷ status 1 7 7 0 7 ∷ status 2 7 7 0 7 ∷ []) 1 0 0) ∷
-    entry (events.Status (sides.Follower 2)) (replies.FollowerStatus phases.Active 1 1 (status 0 7 7 0 7 ∷ status 1 7 7 0 7 ∷ []) 1 0 0) ∷
-    entry (events.Status (sides.Follower 3)) (replies.FollowerStatus phases.Active 1 1 (status 0 7 7 0 7 ∷ status 1 7 7 0 7 ∷ []) 1 0 0) ∷
+    entry (events.Status (sides.Follower 0)) (replies.FollowerStatus (follower_status phases.Active 1 1 (status 0 7 7 0 7 ∷ []) 1 0 0)) ∷
+    entry (events.Status (sides.Follower 1)) (replies.FollowerStatus (follower_status phases.Active 1 1 (status 0 7 7 0 7 ∷ status 1 7 7 0 7 ∷ status 2 7 7 0 7 ∷ []) 1 0 0)) ∷
+    entry (events.Status (sides.Follower 2)) (replies.FollowerStatus (follower_status phases.Active 1 1 (status 0 7 7 0 7 ∷ status 1 7 7 0 7 ∷ []) 1 0 0)) ∷
+    entry (events.Status (sides.Follower 3)) (replies.FollowerStatus (follower_status phases.Active 1 1 (status 0 7 7 0 7 ∷ status 1 7 7 0 7 ∷ []) 1 0 0)) ∷
     []

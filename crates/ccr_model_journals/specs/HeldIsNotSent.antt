@@ -10,7 +10,7 @@ use Rattle.ccr_journal.specs.declared.replies.Refusal.TheVariants as refusals
 use Rattle.ccr_journal.specs.declared.replies.Reply.TheVariants as replies
 use Rattle.ccr_journal.specs.declared.replies.WriteResult.TheVariants as written
 use Rattle.ccr_model.specs.Leaders.{Start}
-use Rattle.ccr_model_journals.specs.Words.{begun, entry, index, params, request, status, wrote}
+use Rattle.ccr_model_journals.specs.Words.{begun, entry, follower_status, index, params, request, status, wrote}
 
 abbrev pub held_is_not_sent_start : Start
 held_is_not_sent_start = begun 1 7 43200000 0
@@ -33,19 +33,19 @@ held_is_not_sent_entries =
     entry (events.Deliver 0 0 false) (replies.Heard heard.Done) ∷
     entry (events.Deliver 1 0 false) (replies.Heard heard.Done) ∷
     entry (events.Deliver 1 0 true) (replies.Heard heard.Done) ∷
-    entry (events.Status (sides.Follower 0)) (replies.FollowerStatus phases.Active 1 1 (status 0 0 0 0 0 ∷ []) 2 1 1) ∷
+    entry (events.Status (sides.Follower 0)) (replies.FollowerStatus (follower_status phases.Active 1 1 (status 0 0 0 0 0 ∷ []) 2 1 1)) ∷
     entry (events.Deliver 1 0 false) (replies.Heard heard.Ignored) ∷
-    entry (events.Status (sides.Follower 0)) (replies.FollowerStatus phases.Active 1 1 (status 0 0 0 0 0 ∷ []) 2 1 1) ∷
+    entry (events.Status (sides.Follower 0)) (replies.FollowerStatus (follower_status phases.Active 1 1 (status 0 0 0 0 0 ∷ []) 2 1 1)) ∷
     entry (events.Lose 0 1) (replies.Refused (refusals.NoRequest 1)) ∷
     entry (events.Lose 0 0) replies.Done ∷
-    entry (events.Status (sides.Follower 0)) (replies.FollowerStatus phases.Active 1 1 (status 0 0 0 0 0 ∷ []) 2 1 1) ∷
+    entry (events.Status (sides.Follower 0)) (replies.FollowerStatus (follower_status phases.Active 1 1 (status 0 0 0 0 0 ∷ []) 2 1 1)) ∷
     entry (events.Take 0 0) (replies.Took (index 0 1 1 (codes "a") None (codes "{\"n\":0}") ∷ [])) ∷
     entry (events.Apply 0 1 0 (index 0 1 1 (codes "a") None (codes "{\"n\":0}") ∷ [])) (replies.Applied 1) ∷
     entry (events.Written 0 0) replies.Done ∷
-    entry (events.Status (sides.Follower 0)) (replies.FollowerStatus phases.Active 1 1 (status 0 1 1 0 1 ∷ []) 2 0 1) ∷
+    entry (events.Status (sides.Follower 0)) (replies.FollowerStatus (follower_status phases.Active 1 1 (status 0 1 1 0 1 ∷ []) 2 0 1)) ∷
     entry (events.Clock (sides.Follower 0) 10) replies.Done ∷
     entry (events.Tick 0) replies.Done ∷
     entry (events.Clock (sides.Follower 0) 50) replies.Done ∷
     entry (events.Tick 0) replies.Done ∷
-    entry (events.Status (sides.Follower 0)) (replies.FollowerStatus phases.Active 1 1 (status 0 1 1 0 1 ∷ []) 2 0 1) ∷
+    entry (events.Status (sides.Follower 0)) (replies.FollowerStatus (follower_status phases.Active 1 1 (status 0 1 1 0 1 ∷ []) 2 0 1)) ∷
     []

@@ -10,7 +10,7 @@ use Rattle.ccr_journal.specs.declared.replies.Refusal.TheVariants as refusals
 use Rattle.ccr_journal.specs.declared.replies.Reply.TheVariants as replies
 use Rattle.ccr_journal.specs.declared.replies.WriteResult.TheVariants as written
 use Rattle.ccr_model.specs.Leaders.{Start}
-use Rattle.ccr_model_journals.specs.Words.{begun, entry, params, request, status, wrote}
+use Rattle.ccr_model_journals.specs.Words.{begun, entry, follower_status, params, request, status, wrote}
 
 abbrev pub lose_by_request_number_start : Start
 lose_by_request_number_start = begun 1 233123597930171938637576872671869459266 43200000 0
@@ -43,7 +43,7 @@ lose_by_request_number_entries =
     entry (events.Deliver 1 0 false) (replies.Heard heard.Ignored) ∷
     entry (events.Deliver 0 0 false) (replies.Heard heard.Done) ∷
     entry (events.Deliver 0 0 false) (replies.Heard heard.Done) ∷
-    entry (events.Status (sides.Follower 0)) (replies.FollowerStatus phases.Active 1 1 (status 0 0 0 0 0 ∷ []) 2 0 2) ∷
+    entry (events.Status (sides.Follower 0)) (replies.FollowerStatus (follower_status phases.Active 1 1 (status 0 0 0 0 0 ∷ []) 2 0 2)) ∷
     entry (events.Clock (sides.Follower 0) 149) replies.Done ∷
     entry (events.Tick 0) replies.Done ∷
     entry (events.Drop 1) (replies.Refused (refusals.NoFrame 1)) ∷
@@ -51,5 +51,5 @@ lose_by_request_number_entries =
     entry (events.Tick 0) replies.Done ∷
     entry (events.Deliver 1 0 false) (replies.Heard heard.Done) ∷
     entry (events.Deliver 1 0 false) (replies.Heard heard.Done) ∷
-    entry (events.Status (sides.Follower 0)) (replies.FollowerStatus phases.Active 1 1 (status 0 0 0 0 0 ∷ []) 1 0 3) ∷
+    entry (events.Status (sides.Follower 0)) (replies.FollowerStatus (follower_status phases.Active 1 1 (status 0 0 0 0 0 ∷ []) 1 0 3)) ∷
     []

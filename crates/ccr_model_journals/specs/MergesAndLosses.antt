@@ -13,7 +13,7 @@ use Rattle.ccr_journal.specs.declared.replies.Refusal.TheVariants as refusals
 use Rattle.ccr_journal.specs.declared.replies.Reply.TheVariants as replies
 use Rattle.ccr_journal.specs.declared.replies.WriteResult.TheVariants as written
 use Rattle.ccr_model.specs.Leaders.{Start}
-use Rattle.ccr_model_journals.specs.Words.{begun, entry, found, hit, key, params, request, status, wrote}
+use Rattle.ccr_model_journals.specs.Words.{begun, entry, follower_status, found, hit, key, params, request, search_for, status, wrote}
 
 abbrev pub merges_and_losses_start : Start
 merges_and_losses_start = begun 2 233123597930171938637576872671869459266 2000 0
@@ -34,14 +34,14 @@ merges_and_losses_entries =
     entry (events.Deliver 0 0 true) (replies.Heard (heard.Waiting 1)) ∷
     entry (events.Deliver 0 0 false) (replies.Heard (heard.Waiting 1)) ∷
     entry (events.Write (request (codes "a") None None false None)) (replies.Written (wrote 8 1 3 written.Deleted)) ∷
-    entry (events.Search sides.Leader 1 (condition conditions.MatchAll) []) (replies.Found (found 0 false [])) ∷
+    entry (events.Search sides.Leader 1 (search_for (condition conditions.MatchAll) [])) (replies.Found (found 0 false [])) ∷
     entry (events.Promote sides.Leader 1) (replies.Promoted 2 0) ∷
     entry (events.Clock (sides.Follower 0) 51) replies.Done ∷
     entry (events.Tick 0) replies.Done ∷
     entry (events.Merge sides.Leader 1) (replies.Merged 0 0 []) ∷
     entry (events.Write (request (codes "d") None (Some (codes "{\"n\":7}")) false None)) (replies.Written (wrote 0 2 1 written.Created)) ∷
     entry (events.Write (request (codes "b") None None false (Some (9, 1)))) (replies.Refused (refusals.Conflict None)) ∷
-    entry (events.Search (sides.Follower 0) 1 (condition conditions.MatchAll) []) (replies.Found (found 0 false [])) ∷
+    entry (events.Search (sides.Follower 0) 1 (search_for (condition conditions.MatchAll) [])) (replies.Found (found 0 false [])) ∷
     entry (events.Deliver 2 1 false) (replies.Refused (refusals.NoFrame 2)) ∷
     entry (events.Status sides.Leader) (replies.LeaderStatus 2 (status 1 1 1 0 1 ∷ []) []) ∷
     entry (events.Flush sides.Leader 1) (replies.Flushed 1) ∷
@@ -76,7 +76,7 @@ merges_and_losses_entries =
     entry (events.Sync (sides.Follower 0) 1) replies.Done ∷
     entry (events.Replicate sides.Leader 2 0) replies.Done ∷
     entry (events.Lose 0 0) (replies.Refused (refusals.NoRequest 0)) ∷
-    entry (events.Status (sides.Follower 0)) (replies.FollowerStatus phases.Leasing 0 1 (status 0 0 0 0 0 ∷ status 1 0 0 0 0 ∷ []) 0 0 0) ∷
+    entry (events.Status (sides.Follower 0)) (replies.FollowerStatus (follower_status phases.Leasing 0 1 (status 0 0 0 0 0 ∷ status 1 0 0 0 0 ∷ []) 0 0 0)) ∷
     entry (events.Sync sides.Leader 2) replies.Done ∷
     entry (events.Write (request (codes "d") None (Some (codes "null")) true None)) (replies.Refused (refusals.BadSource faults.NotObject)) ∷
     entry (events.Deliver 0 1 false) (replies.Refused (refusals.NoFrame 0)) ∷
@@ -87,7 +87,7 @@ merges_and_losses_entries =
     entry (events.Flush sides.Leader 1) (replies.Flushed 5) ∷
     entry (events.Merge sides.Leader 1) (replies.Merged 5 4 (0 ∷ 1 ∷ [])) ∷
     entry (events.Write (request (codes "d") None (Some (codes "{\"n\":5}")) false None)) (replies.Written (wrote 5 2 2 written.Updated)) ∷
-    entry (events.Search (sides.Follower 0) 0 (condition (conditions.Match (codes "t") (195 ∷ 169 ∷ []))) []) (replies.Found (found 0 false [])) ∷
+    entry (events.Search (sides.Follower 0) 0 (search_for (condition (conditions.Match (codes "t") (195 ∷ 169 ∷ []))) [])) (replies.Found (found 0 false [])) ∷
     entry (events.Merge sides.Leader 1) (replies.Merged 5 1 (0 ∷ [])) ∷
     entry (events.Deliver 1 1 false) (replies.Refused (refusals.NoFrame 1)) ∷
     entry (events.FailCopy (sides.Follower 0) 1) replies.Done ∷
@@ -95,7 +95,7 @@ merges_and_losses_entries =
     entry (events.Tick 0) replies.Done ∷
     entry (events.Write (request (codes "b") None None false None)) (replies.Written (wrote 6 2 1 written.NotFound)) ∷
     entry (events.Ack sides.Leader 1) (replies.Refused (refusals.IsPrimary 1)) ∷
-    entry (events.Search (sides.Follower 0) 0 (condition conditions.MatchAll) []) (replies.Found (found 0 false [])) ∷
+    entry (events.Search (sides.Follower 0) 0 (search_for (condition conditions.MatchAll) [])) (replies.Found (found 0 false [])) ∷
     entry (events.Merge (sides.Follower 0) 0) (replies.Merged 0 0 []) ∷
     entry (events.Merge sides.Leader 1) (replies.Merged 5 0 []) ∷
     entry (events.FailCopy (sides.Follower 0) 0) (replies.Refused (refusals.LastCopy 0)) ∷
@@ -105,7 +105,7 @@ merges_and_losses_entries =
     entry (events.Write (request (codes "a") None (Some (codes "{\"n\":1}")) true None)) (replies.Refused (refusals.Exists 7)) ∷
     entry (events.Flush sides.Leader 1) (replies.Flushed 8) ∷
     entry (events.Write (request (codes "c") None (Some (codes "{\"n\":[3,null],\"o\":{\"p.q\":-5},\"t\":\"" ++ (195 ∷ 169 ∷ []) ++ codes "-b\"}")) false None)) (replies.Written (wrote 8 2 1 written.Created)) ∷
-    entry (events.Search sides.Leader 1 (condition conditions.MatchAll) (key (codes "o.p.q") orders.Desc ∷ key (codes "o.p.q") orders.Asc ∷ [])) (replies.Found (found 9 false (hit (codes "c") None (codes "{\"n\":[3,null],\"o\":{\"p.q\":-5},\"t\":\"" ++ (195 ∷ 169 ∷ []) ++ codes "-b\"}") ∷ hit (codes "a") None (codes "{\"n\":9}") ∷ hit (codes "d") None (codes "{\"n\":5}") ∷ []))) ∷
+    entry (events.Search sides.Leader 1 (search_for (condition conditions.MatchAll) (key (codes "o.p.q") orders.Desc ∷ key (codes "o.p.q") orders.Asc ∷ []))) (replies.Found (found 9 false (hit (codes "c") None (codes "{\"n\":[3,null],\"o\":{\"p.q\":-5},\"t\":\"" ++ (195 ∷ 169 ∷ []) ++ codes "-b\"}") ∷ hit (codes "a") None (codes "{\"n\":9}") ∷ hit (codes "d") None (codes "{\"n\":5}") ∷ []))) ∷
     entry (events.Lose 0 0) (replies.Refused (refusals.NoRequest 0)) ∷
     entry (events.Written 0 2) (replies.Refused (refusals.NoBatch 2)) ∷
     entry (events.Write (request (codes "a") None (Some (codes "{\"n\":3}")) false None)) (replies.Written (wrote 9 2 2 written.Updated)) ∷

@@ -7,7 +7,7 @@ use Rattle.ccr_journal.specs.declared.journals.Entry.{Entry}
 use Rattle.ccr_journal.specs.declared.replies.Heard.TheVariants as heard
 use Rattle.ccr_journal.specs.declared.replies.Reply.TheVariants as replies
 use Rattle.ccr_model.specs.Leaders.{Start}
-use Rattle.ccr_model_journals.specs.Words.{begun, default_params, entry, status}
+use Rattle.ccr_model_journals.specs.Words.{begun, default_params, entry, follower_status, status}
 
 abbrev pub not_ready_start : Start
 not_ready_start = begun 3 233123597930171938637576872671869459266 43200000 0
@@ -25,5 +25,5 @@ not_ready_entries =
     entry (events.Deliver 0 1 false) (replies.Heard (heard.Waiting 2)) ∷
     entry (events.Sync sides.Leader 2) replies.Done ∷
     entry (events.Deliver 0 1 false) (replies.Heard heard.Done) ∷
-    entry (events.Status (sides.Follower 0)) (replies.FollowerStatus phases.Opening 0 1 (status 0 0 0 0 0 ∷ []) 0 0 0) ∷
+    entry (events.Status (sides.Follower 0)) (replies.FollowerStatus (follower_status phases.Opening 0 1 (status 0 0 0 0 0 ∷ []) 0 0 0)) ∷
     []

@@ -10,7 +10,7 @@ use Rattle.ccr_journal.specs.declared.replies.Refusal.TheVariants as refusals
 use Rattle.ccr_journal.specs.declared.replies.Reply.TheVariants as replies
 use Rattle.ccr_journal.specs.declared.replies.WriteResult.TheVariants as written
 use Rattle.ccr_model.specs.Leaders.{Start}
-use Rattle.ccr_model_journals.specs.Words.{begun, default_params, entry, found, hit, index, request, wrote}
+use Rattle.ccr_model_journals.specs.Words.{begun, default_params, entry, found, hit, index, request, search_for, wrote}
 
 abbrev pub number_used_again_start : Start
 number_used_again_start = begun 2 233123597930171938637576872671869459266 43200000 0
@@ -42,5 +42,5 @@ number_used_again_entries =
     entry (events.Sync (sides.Follower 0) 1) replies.Done ∷
     entry (events.Deliver 0 1 false) (replies.Heard heard.Parked) ∷
     entry events.Settle replies.Settled ∷
-    entry (events.Search (sides.Follower 0) 0 (condition conditions.MatchAll) []) (replies.Found (found 1 false (hit (codes "a") None (codes "{\"n\":2}") ∷ []))) ∷
+    entry (events.Search (sides.Follower 0) 0 (search_for (condition conditions.MatchAll) [])) (replies.Found (found 1 false (hit (codes "a") None (codes "{\"n\":2}") ∷ []))) ∷
     []

@@ -9,7 +9,7 @@ use Rattle.ccr_journal.specs.declared.replies.Heard.TheVariants as heard
 use Rattle.ccr_journal.specs.declared.replies.Reply.TheVariants as replies
 use Rattle.ccr_journal.specs.declared.replies.WriteResult.TheVariants as written
 use Rattle.ccr_model.specs.Leaders.{Start}
-use Rattle.ccr_model_journals.specs.Words.{begun, default_params, entry, index, request, status, wrote}
+use Rattle.ccr_model_journals.specs.Words.{begun, default_params, entry, follower_status, index, request, status, wrote}
 
 abbrev pub old_read_repeated_start : Start
 old_read_repeated_start = begun 1 233123597930171938637576872671869459266 43200000 0
@@ -41,5 +41,5 @@ old_read_repeated_entries =
     entry (events.Merge sides.Leader 0) (replies.Merged 2 1 (0 ∷ [])) ∷
     entry (events.Deliver 0 0 false) (replies.Heard (heard.Missing 1 2)) ∷
     entry (events.Deliver 2 0 false) (replies.Heard heard.Ignored) ∷
-    entry (events.Status (sides.Follower 0)) (replies.FollowerStatus phases.Active 1 1 (status 0 2 2 0 2 ∷ []) 1 0 0) ∷
+    entry (events.Status (sides.Follower 0)) (replies.FollowerStatus (follower_status phases.Active 1 1 (status 0 2 2 0 2 ∷ []) 1 0 0)) ∷
     []

@@ -9,7 +9,7 @@ use Rattle.ccr_journal.specs.declared.replies.Heard.TheVariants as heard
 use Rattle.ccr_journal.specs.declared.replies.Reply.TheVariants as replies
 use Rattle.ccr_journal.specs.declared.replies.WriteResult.TheVariants as written
 use Rattle.ccr_model.specs.Leaders.{Start}
-use Rattle.ccr_model_journals.specs.Words.{begun, entry, index, params, request, status, wrote}
+use Rattle.ccr_model_journals.specs.Words.{begun, entry, follower_status, index, params, request, status, wrote}
 
 abbrev pub pause_with_a_buffer_start : Start
 pause_with_a_buffer_start = begun 1 7 1000000 0
@@ -41,23 +41,23 @@ pause_with_a_buffer_entries =
     entry (events.Write (request (codes "x") None (Some (codes "{\"n\":7}")) false None)) (replies.Written (wrote 15 1 8 written.Updated)) ∷
     entry (events.Deliver 0 0 false) (replies.Heard heard.Done) ∷
     entry (events.Deliver 0 0 false) (replies.Heard heard.Done) ∷
-    entry (events.Status (sides.Follower 0)) (replies.FollowerStatus phases.Active 1 1 (status 0 8 8 0 8 ∷ []) 2 2 1) ∷
+    entry (events.Status (sides.Follower 0)) (replies.FollowerStatus (follower_status phases.Active 1 1 (status 0 8 8 0 8 ∷ []) 2 2 1)) ∷
     entry (events.Write (request (codes "y") None (Some (codes "{\"n\":9}")) false None)) (replies.Written (wrote 16 1 1 written.Created)) ∷
     entry (events.Deliver 1 0 false) (replies.Heard heard.Done) ∷
     entry (events.Deliver 1 0 false) (replies.Heard heard.Done) ∷
-    entry (events.Status (sides.Follower 0)) (replies.FollowerStatus phases.Active 1 1 (status 0 8 8 0 8 ∷ []) 1 4 1) ∷
+    entry (events.Status (sides.Follower 0)) (replies.FollowerStatus (follower_status phases.Active 1 1 (status 0 8 8 0 8 ∷ []) 1 4 1)) ∷
     entry (events.Pause 0) replies.Done ∷
-    entry (events.Status (sides.Follower 0)) (replies.FollowerStatus phases.Paused 1 1 (status 0 8 8 0 8 ∷ []) 0 0 1) ∷
+    entry (events.Status (sides.Follower 0)) (replies.FollowerStatus (follower_status phases.Paused 1 1 (status 0 8 8 0 8 ∷ []) 0 0 1)) ∷
     entry (events.Take 0 0) (replies.Took (index 8 1 1 (codes "x") None (codes "{\"n\":0}") ∷ [])) ∷
     entry (events.Apply 0 1 0 (index 8 1 1 (codes "x") None (codes "{\"n\":0}") ∷ [])) (replies.Applied 1) ∷
     entry (events.Written 0 0) replies.Done ∷
     entry (events.Resume 0) replies.Done ∷
-    entry (events.Status (sides.Follower 0)) (replies.FollowerStatus phases.Active 2 1 (status 0 9 9 0 9 ∷ []) 1 0 0) ∷
+    entry (events.Status (sides.Follower 0)) (replies.FollowerStatus (follower_status phases.Active 2 1 (status 0 9 9 0 9 ∷ []) 1 0 0)) ∷
     entry (events.Deliver 1 0 false) (replies.Heard heard.Done) ∷
     entry (events.Deliver 1 0 false) (replies.Heard heard.Done) ∷
-    entry (events.Status (sides.Follower 0)) (replies.FollowerStatus phases.Active 2 1 (status 0 9 9 0 9 ∷ []) 2 2 1) ∷
+    entry (events.Status (sides.Follower 0)) (replies.FollowerStatus (follower_status phases.Active 2 1 (status 0 9 9 0 9 ∷ []) 2 2 1)) ∷
     entry (events.Write (request (codes "z") None (Some (codes "{\"n\":1}")) false None)) (replies.Written (wrote 17 1 1 written.Created)) ∷
     entry (events.Deliver 0 0 false) (replies.Heard heard.Done) ∷
     entry (events.Deliver 0 0 false) (replies.Heard heard.Done) ∷
-    entry (events.Status (sides.Follower 0)) (replies.FollowerStatus phases.Active 2 1 (status 0 9 9 0 9 ∷ []) 2 2 1) ∷
+    entry (events.Status (sides.Follower 0)) (replies.FollowerStatus (follower_status phases.Active 2 1 (status 0 9 9 0 9 ∷ []) 2 2 1)) ∷
     []

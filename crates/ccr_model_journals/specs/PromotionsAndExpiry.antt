@@ -12,7 +12,7 @@ use Rattle.ccr_journal.specs.declared.replies.Refusal.TheVariants as refusals
 use Rattle.ccr_journal.specs.declared.replies.Reply.TheVariants as replies
 use Rattle.ccr_journal.specs.declared.replies.WriteResult.TheVariants as written
 use Rattle.ccr_model.specs.Leaders.{Start}
-use Rattle.ccr_model_journals.specs.Words.{begun, delete, entry, found, index, params, request, wrote}
+use Rattle.ccr_model_journals.specs.Words.{begun, delete, entry, found, index, params, request, search_for, wrote}
 
 abbrev pub promotions_and_expiry_start : Start
 promotions_and_expiry_start = begun 3 233123597930171938637576872671869459266 1 3
@@ -57,7 +57,7 @@ promotions_and_expiry_entries =
     entry (events.Ack sides.Leader 2) (replies.Acked 2) ∷
     entry (events.Sync sides.Leader 2) replies.Done ∷
     entry (events.Promote sides.Leader 2) (replies.Promoted 3 0) ∷
-    entry (events.Search (sides.Follower 0) 0 (condition conditions.MatchAll) []) (replies.Found (found 2 false [])) ∷
+    entry (events.Search (sides.Follower 0) 0 (search_for (condition conditions.MatchAll) [])) (replies.Found (found 2 false [])) ∷
     entry (events.FailCopy sides.Leader 2) (replies.Refused (refusals.LastCopy 2)) ∷
     entry (events.Merge sides.Leader 2) (replies.Merged 0 0 []) ∷
     entry (events.Flush sides.Leader 2) (replies.Flushed 2) ∷
@@ -67,7 +67,7 @@ promotions_and_expiry_entries =
     entry (events.Restart 0) replies.Done ∷
     entry (events.Flush sides.Leader 2) (replies.Flushed 2) ∷
     entry (events.Write (request (codes "a") None None false None)) (replies.Written (wrote 2 3 1 written.NotFound)) ∷
-    entry (events.Search sides.Leader 2 (condition (conditions.Term (codes "n") (scalars.Number (pos 1)))) []) (replies.Found (found 3 false [])) ∷
+    entry (events.Search sides.Leader 2 (search_for (condition (conditions.Term (codes "n") (scalars.Number (pos 1)))) [])) (replies.Found (found 3 false [])) ∷
     entry (events.Flush sides.Leader 2) (replies.Flushed 3) ∷
     entry (events.Write (request (codes "a") None (Some (codes "{\"n\":[2,null],\"o\":{\"p.q\":-5},\"t\":\"" ++ (195 ∷ 169 ∷ []) ++ codes "-b\"}")) false (Some (5, 1)))) (replies.Refused (refusals.Conflict None)) ∷
     entry (events.Write (request (codes "d") None None false None)) (replies.Written (wrote 3 3 1 written.NotFound)) ∷

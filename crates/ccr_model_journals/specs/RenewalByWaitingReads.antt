@@ -10,7 +10,7 @@ use Rattle.ccr_journal.specs.declared.replies.Refusal.TheVariants as refusals
 use Rattle.ccr_journal.specs.declared.replies.Reply.TheVariants as replies
 use Rattle.ccr_journal.specs.declared.replies.WriteResult.TheVariants as written
 use Rattle.ccr_model.specs.Leaders.{Start}
-use Rattle.ccr_model_journals.specs.Words.{begun, entry, index, lease, params, request, status, wrote}
+use Rattle.ccr_model_journals.specs.Words.{begun, entry, follower_status, index, lease, params, request, status, wrote}
 
 abbrev pub renewal_by_waiting_reads_start : Start
 renewal_by_waiting_reads_start = begun 1 7 43200000 0
@@ -31,7 +31,7 @@ renewal_by_waiting_reads_entries =
     entry (events.Write (request (codes "f") None (Some (codes "{\"n\":5}")) false None)) (replies.Written (wrote 5 1 1 written.Created)) ∷
     entry (events.Wake 0 0) (replies.Heard heard.Done) ∷
     entry (events.Deliver 0 0 false) (replies.Heard heard.Done) ∷
-    entry (events.Status (sides.Follower 0)) (replies.FollowerStatus phases.Active 1 1 (status 0 0 0 0 0 ∷ status 1 0 0 0 0 ∷ []) 2 0 1) ∷
+    entry (events.Status (sides.Follower 0)) (replies.FollowerStatus (follower_status phases.Active 1 1 (status 0 0 0 0 0 ∷ status 1 0 0 0 0 ∷ []) 2 0 1)) ∷
     entry (events.Deliver 0 0 false) (replies.Heard heard.Done) ∷
     entry (events.Deliver 0 0 false) (replies.Heard heard.Done) ∷
     entry (events.Deliver 0 0 false) (replies.Heard heard.Done) ∷

@@ -10,7 +10,7 @@ use Rattle.ccr_journal.specs.declared.replies.Heard.TheVariants as heard
 use Rattle.ccr_journal.specs.declared.replies.Reply.TheVariants as replies
 use Rattle.ccr_journal.specs.declared.replies.WriteResult.TheVariants as written
 use Rattle.ccr_model.specs.Leaders.{Start}
-use Rattle.ccr_model_journals.specs.Words.{begun, entry, found, hit, index, params, request, wrote}
+use Rattle.ccr_model_journals.specs.Words.{begun, entry, found, hit, index, params, request, search_for, wrote}
 
 abbrev pub reordering_start : Start
 reordering_start = begun 1 233123597930171938637576872671869459266 43200000 0
@@ -35,10 +35,10 @@ reordering_entries =
     entry (events.Deliver 1 0 false) (replies.Heard heard.Done) ∷
     entry (events.Take 0 1) (replies.Took (index 2 1 2 (codes "a") None (codes "{\"n\":2}") ∷ [])) ∷
     entry (events.Apply 0 1 1 (index 2 1 2 (codes "a") None (codes "{\"n\":2}") ∷ [])) (replies.Applied 1) ∷
-    entry (events.Search (sides.Follower 0) 0 (condition conditions.MatchAll) []) (replies.Found (found 1 true (hit (codes "a") None (codes "{\"n\":2}") ∷ hit (codes "b") None (codes "{\"n\":5}") ∷ []))) ∷
+    entry (events.Search (sides.Follower 0) 0 (search_for (condition conditions.MatchAll) [])) (replies.Found (found 1 true (hit (codes "a") None (codes "{\"n\":2}") ∷ hit (codes "b") None (codes "{\"n\":5}") ∷ []))) ∷
     entry (events.Deliver 0 0 false) (replies.Heard heard.Done) ∷
     entry (events.Deliver 0 0 false) (replies.Heard heard.Done) ∷
     entry (events.Take 0 2) (replies.Took (index 1 1 1 (codes "a") None (codes "{\"n\":1}") ∷ [])) ∷
     entry (events.Apply 0 1 2 (index 1 1 1 (codes "a") None (codes "{\"n\":1}") ∷ [])) (replies.Applied 1) ∷
-    entry (events.Search (sides.Follower 0) 0 (condition conditions.MatchAll) []) (replies.Found (found 3 false (hit (codes "a") None (codes "{\"n\":2}") ∷ hit (codes "b") None (codes "{\"n\":5}") ∷ []))) ∷
+    entry (events.Search (sides.Follower 0) 0 (search_for (condition conditions.MatchAll) [])) (replies.Found (found 3 false (hit (codes "a") None (codes "{\"n\":2}") ∷ hit (codes "b") None (codes "{\"n\":5}") ∷ []))) ∷
     []

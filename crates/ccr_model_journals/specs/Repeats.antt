@@ -10,7 +10,7 @@ use Rattle.ccr_journal.specs.declared.replies.Heard.TheVariants as heard
 use Rattle.ccr_journal.specs.declared.replies.Reply.TheVariants as replies
 use Rattle.ccr_journal.specs.declared.replies.WriteResult.TheVariants as written
 use Rattle.ccr_model.specs.Leaders.{Start}
-use Rattle.ccr_model_journals.specs.Words.{begun, default_params, entry, found, hit, index, request, wrote}
+use Rattle.ccr_model_journals.specs.Words.{begun, default_params, entry, found, hit, index, request, search_for, wrote}
 
 abbrev pub repeats_start : Start
 repeats_start = begun 1 233123597930171938637576872671869459266 43200000 0
@@ -33,5 +33,5 @@ repeats_entries =
     entry (events.Apply 0 1 0 (index 0 1 1 (codes "a") None (codes "{\"n\":1}") ∷ [])) (replies.Applied 1) ∷
     entry (events.Take 0 0) (replies.Took (index 0 1 1 (codes "a") None (codes "{\"n\":1}") ∷ [])) ∷
     entry (events.Apply 0 1 0 (index 0 1 1 (codes "a") None (codes "{\"n\":1}") ∷ [])) (replies.Applied 0) ∷
-    entry (events.Search (sides.Follower 0) 0 (condition conditions.MatchAll) []) (replies.Found (found 1 false (hit (codes "a") None (codes "{\"n\":1}") ∷ []))) ∷
+    entry (events.Search (sides.Follower 0) 0 (search_for (condition conditions.MatchAll) [])) (replies.Found (found 1 false (hit (codes "a") None (codes "{\"n\":1}") ∷ []))) ∷
     []

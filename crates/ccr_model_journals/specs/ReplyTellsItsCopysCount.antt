@@ -8,7 +8,7 @@ use Rattle.ccr_journal.specs.declared.replies.Heard.TheVariants as heard
 use Rattle.ccr_journal.specs.declared.replies.Reply.TheVariants as replies
 use Rattle.ccr_journal.specs.declared.replies.WriteResult.TheVariants as written
 use Rattle.ccr_model.specs.Leaders.{Start}
-use Rattle.ccr_model_journals.specs.Words.{begun, entry, lease, params, request, status, wrote}
+use Rattle.ccr_model_journals.specs.Words.{begun, entry, follower_status, lease, params, request, status, wrote}
 
 abbrev pub reply_tells_its_copys_count_start : Start
 reply_tells_its_copys_count_start = begun 2 7 43200000 0
@@ -36,7 +36,7 @@ reply_tells_its_copys_count_entries =
     entry (events.Ack sides.Leader 1) (replies.Acked 4) ∷
     entry (events.Status sides.Leader) (replies.LeaderStatus 1 (status 0 4 4 0 4 ∷ status 1 4 1 0 4 ∷ []) (lease (codes "f") 0 0 ∷ [])) ∷
     entry (events.Deliver 0 1 false) (replies.Heard heard.Done) ∷
-    entry (events.Status (sides.Follower 0)) (replies.FollowerStatus phases.Active 1 1 (status 0 0 0 0 0 ∷ []) 1 0 0) ∷
+    entry (events.Status (sides.Follower 0)) (replies.FollowerStatus (follower_status phases.Active 1 1 (status 0 0 0 0 0 ∷ []) 1 0 0)) ∷
     entry (events.Deliver 0 0 false) (replies.Heard heard.Done) ∷
-    entry (events.Status (sides.Follower 0)) (replies.FollowerStatus phases.Active 1 1 (status 0 0 0 0 0 ∷ []) 1 0 1) ∷
+    entry (events.Status (sides.Follower 0)) (replies.FollowerStatus (follower_status phases.Active 1 1 (status 0 0 0 0 0 ∷ []) 1 0 1)) ∷
     []

@@ -9,7 +9,7 @@ use Rattle.ccr_journal.specs.declared.replies.Refusal.TheVariants as refusals
 use Rattle.ccr_journal.specs.declared.replies.Reply.TheVariants as replies
 use Rattle.ccr_journal.specs.declared.replies.WriteResult.TheVariants as written
 use Rattle.ccr_model.specs.Leaders.{Start}
-use Rattle.ccr_model_journals.specs.Words.{begun, default_params, entry, request, status, wrote}
+use Rattle.ccr_model_journals.specs.Words.{begun, default_params, entry, follower_status, request, status, wrote}
 
 abbrev pub second_poll_is_woken_start : Start
 second_poll_is_woken_start = begun 2 7 43200000 0
@@ -31,14 +31,14 @@ second_poll_is_woken_entries =
     entry (events.Replicate sides.Leader 1 0) replies.Done ∷
     entry (events.Ack sides.Leader 1) (replies.Acked 1) ∷
     entry (events.Wake 0 1) (replies.Heard heard.Done) ∷
-    entry (events.Status (sides.Follower 0)) (replies.FollowerStatus phases.Active 2 1 (status 0 0 0 0 0 ∷ []) 1 0 0) ∷
+    entry (events.Status (sides.Follower 0)) (replies.FollowerStatus (follower_status phases.Active 2 1 (status 0 0 0 0 0 ∷ []) 1 0 0)) ∷
     entry (events.Deliver 0 0 false) (replies.Heard heard.Done) ∷
-    entry (events.Status (sides.Follower 0)) (replies.FollowerStatus phases.Active 2 1 (status 0 0 0 0 0 ∷ []) 1 0 1) ∷
+    entry (events.Status (sides.Follower 0)) (replies.FollowerStatus (follower_status phases.Active 2 1 (status 0 0 0 0 0 ∷ []) 1 0 1)) ∷
     entry (events.Wake 0 0) (replies.Refused (refusals.Wait 0)) ∷
     entry (events.Deliver 0 0 false) (replies.Heard heard.Parked) ∷
-    entry (events.Status (sides.Follower 0)) (replies.FollowerStatus phases.Active 2 1 (status 0 0 0 0 0 ∷ []) 1 0 1) ∷
+    entry (events.Status (sides.Follower 0)) (replies.FollowerStatus (follower_status phases.Active 2 1 (status 0 0 0 0 0 ∷ []) 1 0 1)) ∷
     entry (events.Sync sides.Leader 1) replies.Done ∷
     entry (events.Wake 0 0) (replies.Heard heard.Done) ∷
     entry (events.Deliver 0 0 false) (replies.Heard heard.Ignored) ∷
-    entry (events.Status (sides.Follower 0)) (replies.FollowerStatus phases.Active 2 1 (status 0 0 0 0 0 ∷ []) 1 0 1) ∷
+    entry (events.Status (sides.Follower 0)) (replies.FollowerStatus (follower_status phases.Active 2 1 (status 0 0 0 0 0 ∷ []) 1 0 1)) ∷
     []

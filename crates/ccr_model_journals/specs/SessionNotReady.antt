@@ -8,7 +8,7 @@ use Rattle.ccr_journal.specs.declared.replies.Heard.TheVariants as heard
 use Rattle.ccr_journal.specs.declared.replies.Refusal.TheVariants as refusals
 use Rattle.ccr_journal.specs.declared.replies.Reply.TheVariants as replies
 use Rattle.ccr_model.specs.Leaders.{Start}
-use Rattle.ccr_model_journals.specs.Words.{begun, default_params, entry, lease, status}
+use Rattle.ccr_model_journals.specs.Words.{begun, default_params, entry, follower_status, lease, status}
 
 abbrev pub session_not_ready_start : Start
 session_not_ready_start = begun 3 233123597930171938637576872671869459266 43200000 0
@@ -36,6 +36,6 @@ session_not_ready_entries =
     entry (events.Tick 0) replies.Done ∷
     entry (events.Deliver 0 1 false) (replies.Heard heard.Done) ∷
     entry (events.Deliver 0 1 false) (replies.Heard heard.Done) ∷
-    entry (events.Status (sides.Follower 0)) (replies.FollowerStatus phases.Active 1 1 (status 0 0 0 0 0 ∷ []) 1 0 0) ∷
+    entry (events.Status (sides.Follower 0)) (replies.FollowerStatus (follower_status phases.Active 1 1 (status 0 0 0 0 0 ∷ []) 1 0 0)) ∷
     entry (events.Status sides.Leader) (replies.LeaderStatus 2 (status 1 0 0 0 0 ∷ status 2 0 0 0 0 ∷ []) (lease (codes "b/f/0d4c2c54-b543-5c37-9e34-0a9608dd1386-following-a/l/223c283b-627d-5bac-9463-bf337a05a8ea") 0 0 ∷ [])) ∷
     []

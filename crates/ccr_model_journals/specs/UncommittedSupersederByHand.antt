@@ -8,7 +8,7 @@ use Rattle.ccr_journal.specs.declared.journals.Entry.{Entry}
 use Rattle.ccr_journal.specs.declared.replies.Reply.TheVariants as replies
 use Rattle.ccr_journal.specs.declared.replies.WriteResult.TheVariants as written
 use Rattle.ccr_model.specs.Leaders.{Start}
-use Rattle.ccr_model_journals.specs.Words.{begun, entry, found, hit, request, wrote}
+use Rattle.ccr_model_journals.specs.Words.{begun, entry, found, hit, request, search_for, wrote}
 
 abbrev pub uncommitted_superseder_by_hand_start : Start
 uncommitted_superseder_by_hand_start = begun 3 233123597930171938637576872671869459266 43200000 0
@@ -27,5 +27,5 @@ uncommitted_superseder_by_hand_entries =
     entry (events.Merge sides.Leader 1) (replies.Merged 1 0 (0 ∷ [])) ∷
     entry (events.Promote sides.Leader 2) (replies.Promoted 2 0) ∷
     entry (events.Resync 1) (replies.Resynced 1 0) ∷
-    entry (events.Search sides.Leader 1 (condition conditions.MatchAll) []) (replies.Found (found 1 false (hit (codes "a") None (codes "{\"n\":1}") ∷ []))) ∷
+    entry (events.Search sides.Leader 1 (search_for (condition conditions.MatchAll) [])) (replies.Found (found 1 false (hit (codes "a") None (codes "{\"n\":1}") ∷ []))) ∷
     []

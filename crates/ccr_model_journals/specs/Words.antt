@@ -6,6 +6,7 @@ use Rattle.ccr_op.specs.declared.operation.Kind.TheVariants.{Index, Delete, NoOp
 use Rattle.ccr_lease.specs.declared.retention.Lease.{Lease}
 use Rattle.ccr_lease.specs.declared.retention.Expired.{Expired}
 use Rattle.ccr_query.specs.Answers.{HitsOfShard}
+use Rattle.ccr_query.specs.Queries.{Tree}
 use Rattle.ccr_query.specs.declared.answers.Hit.{Hit}
 use Rattle.ccr_query.specs.declared.sorting.SortKey.{SortKey}
 use Rattle.ccr_query.specs.declared.sorting.SortOrder.{SortOrder}
@@ -15,8 +16,11 @@ use Rattle.ccr_journal.specs.declared.params.ParamValues.{ParamValues}
 use Rattle.ccr_journal.specs.declared.replies.Reply.{Reply}
 use Rattle.ccr_journal.specs.declared.replies.WriteResult.{WriteResult}
 use Rattle.ccr_journal.specs.declared.replies.Wrote.{Wrote}
+use Rattle.ccr_journal.specs.declared.requests.SearchRequest.{SearchRequest}
 use Rattle.ccr_journal.specs.declared.requests.WriteRequest.{WriteRequest}
+use Rattle.ccr_journal.specs.declared.sides.Phase.{Phase}
 use Rattle.ccr_journal.specs.declared.statuses.CopyStatus.{CopyStatus}
+use Rattle.ccr_journal.specs.declared.statuses.FollowerStatus.{FollowerStatus}
 use Rattle.ccr_model.specs.Leaders.{Start}
 
 -- a leader shard of so many copies, whose history has this number as its UUID
@@ -63,6 +67,10 @@ default_params = params 5120 33554432 12 5120 9223372036854775807 9 2147483647 5
 abbrev pub status : ℕ → ℕ → ℕ → ℕ → ℕ → CopyStatus
 status copy count global floor held = record { copy = copy; count = count; global = global; floor = floor; held = held }
 
+abbrev pub follower_status : Phase → ℕ → ℕ → List CopyStatus → ℕ → ℕ → ℕ → FollowerStatus
+follower_status phase epoch term copies reads buffer writes =
+    record { phase = phase; epoch = epoch; term = term; copies = copies; reads = reads; buffer = buffer; writes = writes }
+
 abbrev pub lease : List ℕ → ℕ → ℕ → Lease
 lease id number stamp = record { id = id; number = number; stamp = stamp }
 
@@ -71,6 +79,9 @@ gone id stamp now = record { id = id; stamp = stamp; now = now }
 
 abbrev pub key : List ℕ → SortOrder → SortKey
 key field order = record { field = field; order = order }
+
+abbrev pub search_for : Tree → List SortKey → SearchRequest
+search_for query sort = record { query = query; sort = sort }
 
 abbrev pub hit : List ℕ → Option (List ℕ) → List ℕ → Hit
 hit id routing body = record { id = id; routing = routing; body = body }

@@ -209,9 +209,9 @@ each_within told cuts s (events.Resume f) picks said is =
 each_within told cuts s (events.Restart f) picks said is =
     follower_within told cuts s f (λ x. restart_row x (task_of x.work)) is (λ x at own. restart_within (cuts f) x (task_of x.work) (said.primaries f x at) own)
 each_within told cuts s (events.Unfollow f) picks said is = follower_within told cuts s f (λ x. unfollow_row x (task_of x.work)) is (λ x at own. unfollow_within (cuts f) x (task_of x.work) refl own)
-each_within told cuts s (events.Search sides.Leader copy query sort) picks said is = search_within told cuts s copy query sort (copy_of s.leader.copies copy) is
-each_within told cuts s (events.Search (sides.Follower f) copy query sort) picks said is =
-    searched_within told cuts s f (search_row s copy query sort) copy (slice_get s.followers f) (λ c. search_within told cuts s copy query sort c is) is
+each_within told cuts s (events.Search sides.Leader copy request) picks said is = search_within told cuts s copy request.query request.sort (copy_of s.leader.copies copy) is
+each_within told cuts s (events.Search (sides.Follower f) copy request) picks said is =
+    searched_within told cuts s f (search_row s copy request.query request.sort) copy (slice_get s.followers f) (λ c. search_within told cuts s copy request.query request.sort c is) is
 each_within told cuts s (events.Status sides.Leader) picks said is = leader_within told cuts s (leader_status s.leader) is (leader_status_sends (Tells told) s.leader)
 each_within told cuts s (events.Status (sides.Follower f)) picks said is = follower_within told cuts s f follower_status_row is (λ x at own. status_within (cuts f) x own)
 each_within told cuts s events.Settle picks said is = on_guards (StaysWithin told cuts) s _ _ (λ why. is) (λ tests. is)

@@ -202,9 +202,9 @@ each_fits s (events.Pause f) picks orderly unheard now = on_followers s f (λ x.
 each_fits s (events.Resume f) picks orderly unheard now = on_followers s f (λ x. resume_row x (task_of x.work)) orderly now (λ x drawn named. resume_moves (uuid_of f) x named)
 each_fits s (events.Restart f) picks orderly unheard now = on_followers s f (λ x. restart_row x (task_of x.work)) orderly now (λ x drawn named. restart_moves (uuid_of f) x named)
 each_fits s (events.Unfollow f) picks orderly unheard now = on_followers s f (λ x. unfollow_row x (task_of x.work)) orderly now (λ x drawn named. unfollow_moves (uuid_of f) x drawn named)
-each_fits s (events.Search sides.Leader copy query sort) picks orderly unheard now = by_search s copy query sort (copy_of s.leader.copies copy) now
-each_fits s (events.Search (sides.Follower f) copy query sort) picks orderly unheard now =
-    by_searched s f (search_row s copy query sort) copy (slice_get s.followers f) (λ c. by_search s copy query sort c now) now
+each_fits s (events.Search sides.Leader copy request) picks orderly unheard now = by_search s copy request.query request.sort (copy_of s.leader.copies copy) now
+each_fits s (events.Search (sides.Follower f) copy request) picks orderly unheard now =
+    by_searched s f (search_row s copy request.query request.sort) copy (slice_get s.followers f) (λ c. by_search s copy request.query request.sort c now) now
 each_fits s (events.Status sides.Leader) picks orderly unheard now = by_status s now
 each_fits s (events.Status (sides.Follower f)) picks orderly unheard now = on_followers s f follower_status_row orderly now (λ x drawn named. status_moves (uuid_of f) x named)
 each_fits s events.Settle picks orderly unheard now =

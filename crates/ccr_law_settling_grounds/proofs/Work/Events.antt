@@ -160,7 +160,7 @@ each_event s (events.Resume f) picks holds = by_follower s f (λ x. resume_row x
 each_event s (events.Restart f) picks holds = by_follower s f (λ x. restart_row x (task_of x.work)) (λ x own. rows.restart_pending x (task_of x.work) own) holds
 each_event s (events.Unfollow f) picks holds =
     by_follower s f (λ x. unfollow_row x (task_of x.work)) (λ x own. rows.unfollow_pending x (task_of x.work) own (rows.found_pending x.work own)) holds
-each_event s (events.Search side copy query sort) picks holds = by_search_at s side copy query sort holds
+each_event s (events.Search side copy request) picks holds = by_search_at s side copy request.query request.sort holds
 each_event s (events.Status sides.Leader) picks holds = holds
 each_event s (events.Status (sides.Follower f)) picks holds = by_follower s f follower_status_row rows.status_pending holds
 each_event s events.Settle picks holds = by_settle s holds
