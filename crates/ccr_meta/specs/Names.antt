@@ -6,7 +6,7 @@ use Rattle.std.specs.Str.{bytes_eq}
 use Rattle.std.specs.declared.cmp.Ordering.{Ordering}
 use Rattle.std.specs.Ordering.{nat_cmp, ordering_then}
 use Rattle.std.specs.Cmp.Lexicographic.{slice_cmp}
-use Rattle.std.specs.Map.{lookup, values_of, remove_entry}
+use Rattle.std.specs.Map.{keys_of, lookup, values_of, remove_entry}
 use Rattle.std.specs.BTreeMap.{is_at, insert_entry}
 use Rattle.ccr_op.specs.declared.index_name.IndexName.{IndexName}
 use Rattle.ccr_auto.specs.Follow.{FollowPattern}
@@ -62,6 +62,9 @@ is_name_byte c = is_first_byte c || ((c == 95) || (c == 45))
 abbrev pub is_name : List ℕ → Bool
 is_name [] = false
 is_name (c ∷ text) = is_first_byte c && (list_all is_name_byte text && nat_le (length text) 63)
+
+abbrev pub is_index_name : IndexName → Bool
+is_index_name index = is_name index.cluster && is_name index.index
 
 -- ---- what is made
 
@@ -126,7 +129,8 @@ IsFollowerOf names index leader s x = (found : IndexMeta) × (index_at names lea
 
 -- ---- what always holds
 
--- the settings of an index lie in their ranges, its shards in worlds that are there, and its number is that of one of 8 followers
+-- the settings of an index lie in their ranges, its shards in worlds that are there, its number is that of one of 8 followers, and its
+-- leader's names obey the rule
 pub record IsIn (worlds : ℕ) (x : IndexMeta) : Type 0 where
   pub some : 1 ≤ x.shards
   pub few : x.shards ≤ 16
@@ -136,11 +140,15 @@ pub record IsIn (worlds : ℕ) (x : IndexMeta) : Type 0 where
   pub period : 1 ≤ x.period
   pub period_fits : x.period < 2 ^ 53
   pub number : option_map_or (λ n. nat_le n 7) x.follower true ≡ true
+  pub leader : option_map_or is_index_name x.leader true ≡ true
 
--- there are at most 8 clusters, 64 indices, 64 shard worlds and 8 followers of an index, and each index is in its bounds
+-- there are at most 8 clusters, 64 indices, 64 shard worlds and 8 followers of an index, each name obeys the rule, and each index is in
+-- its bounds
 pub record AreIn (names : Names) : Type 0 where
   pub clusters : length names.clusters ≤ 8
   pub indices : length names.indices ≤ 64
   pub worlds : names.worlds ≤ 64
   pub all : All (IsIn names.worlds) (values_of names.indices)
   pub followers : (leader : IndexName) → followers_of names leader ≤ 8
+  pub cluster_names : All (λ cluster. is_name cluster ≡ true) (keys_of names.clusters)
+  pub index_names : All (λ index. is_index_name index ≡ true) (keys_of names.indices)

@@ -3,7 +3,7 @@ ghost use Rattle.std.specs.Option.{option_copied};
 ghost use Rattle.std.specs.Result.{result_err};
 ghost use Rattle.ccr_op.specs.declared.index_name.IndexName.{IndexName};
 ghost use Rattle.ccr_meta.specs.Guards.{first_refusal};
-ghost use Rattle.ccr_meta.specs.Names.{AreIn, IsFollowerOf, IsIn, follows, followers_of, has_cluster, has_index, index_at, is_same_index, shards_in, with_cluster, with_follower, with_index, with_leader, without_index};
+ghost use Rattle.ccr_meta.specs.Names.{AreIn, IsFollowerOf, IsIn, follows, followers_of, has_cluster, has_index, index_at, is_index_name, is_same_index, shards_in, with_cluster, with_follower, with_index, with_leader, without_index};
 ghost use Rattle.ccr_meta.specs.NameGuards.{cluster_guards, create_guards, find_guards, follow_guards};
 
 use crate::naming::{index_uuid, is_fit_to_create, is_fit_to_follow};
@@ -218,11 +218,13 @@ impl Meta {
         Ok(())
     }
 
-    /// The index of this name. Refused are `NoCluster` and `NoIndex`.
+    /// The index of this name. Refused are `NoCluster` and `NoIndex`. What is found obeys the rule of names,
+    /// as its leader does, so that a text made of these names has a bounded length.
     pub fn find(&self, index: &IndexName) -> Result<&IndexMeta, MetaFault>
         ensures answer { MatchOption (first_refusal (find_guards self.now index.now)) (is_ok result ≡ true) (λ fault. result_err result ≡ Some fault) }
         ensures found { IfOk result (λ x. index_at self.now index.now ≡ Some x.now) }
         ensures within { IfOk result (λ x. IsIn self.now.worlds x.now) }
+        ensures named { OnOk result (is_index_name index.now ≡ true) }
         ensures few { self.now.worlds ≤ 64 }
     {
         let _worlds = self.worlds();
@@ -242,6 +244,7 @@ impl Meta {
         requires rising { self.old.worlds ≤ worlds }
         requires bound { worlds ≤ 64 }
         requires within { IsIn worlds x }
+        requires named { is_index_name index ≡ true }
         requires room { (leader : IndexName) → follows leader x ≡ true → followers_of self.old leader < 8 }
         ensures ok { OnOk result (self.new ≡ record (with_index self.old index x) { worlds = worlds }) }
         ensures err { OnErr result (self.new ≡ self.old) }

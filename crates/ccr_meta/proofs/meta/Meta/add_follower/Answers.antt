@@ -13,3 +13,7 @@ put-requires-clause-within c =
 pub put-requires-clause-room : goal.put-requires-clause-room
 put-requires-clause-room c =
     (can_be_followed c.args.self.now c.args.index c.args.leader.now c.args.settings.now c.in_ok-x.x c.worlds-worlds.ensures.fits c.requires c.in_ok-x.ensures).room
+
+pub put-requires-clause-named : goal.put-requires-clause-named
+put-requires-clause-named c =
+    (can_be_followed c.args.self.now c.args.index c.args.leader.now c.args.settings.now c.in_ok-x.x c.worlds-worlds.ensures.fits c.requires c.in_ok-x.ensures).named
