@@ -1,0 +1,4 @@
+pub mod Members
+pub mod Digits
+pub mod Changes
+pub mod Made
