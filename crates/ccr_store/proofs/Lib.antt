@@ -1,0 +1,11 @@
+pub mod ByIdLaws
+pub mod Filing
+pub mod Latest
+pub mod Changes
+pub mod Droppable
+pub mod Turns
+pub mod Joining
+pub mod Merging
+pub mod Lengths
+pub mod Cutting
+pub mod Views

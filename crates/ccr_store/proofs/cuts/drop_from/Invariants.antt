@@ -1,0 +1,13 @@
+use Rattle.std.proofs.Common.{◌≡◌, ℕ, ◌+◌, ◌-◌, ◌<◌, ◌≤◌, ◌++◌, ◌∷◌, [], Bool, true, false, not, nat_lt, Option, Some, None, is_some, List, Vec, Global, length, map, take, drop, get_or, refl, sym, ◌∙◌, ap, subst, IfOk, arith}
+use Rattle.ccr_store.specs.Kept.{kept_at, IsIndexed}
+use Rattle.ccr_store.proofs.cuts.drop_from.Given as goal
+
+abbrev pub invariant-loop : goal.invariant-loop
+invariant-loop l = record {
+  same : (q : ℕ) → nat_lt q l.bound ≡ true → kept_at l.ops.entries q ≡ kept_at l.initial.ops.entries q;
+  indexed : (numbers : List ℕ) → IsIndexed (kept_at l.initial.ops.entries) numbers l.initial.ids.entries → IsIndexed (kept_at l.ops.entries) numbers l.ids.entries;
+  fewer : length l.ops.entries ≤ length l.initial.ops.entries;
+}
+
+abbrev pub decreases-loop : goal.decreases-loop
+decreases-loop l = length l.ops.entries

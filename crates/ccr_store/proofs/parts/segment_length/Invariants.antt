@@ -1,0 +1,6 @@
+use Rattle.std.proofs.Common.{◌≡◌, ℕ, ◌+◌, ◌-◌, ◌<◌, ◌≤◌, ◌++◌, ◌∷◌, [], Bool, true, false, not, nat_lt, Option, Some, None, is_some, List, length, map, take, drop, get_or, refl, sym, ◌∙◌, ap, subst, arith}
+use Rattle.ccr_store.specs.Kept.{bytes_of, kept_at, ops_of}
+use Rattle.ccr_store.proofs.parts.segment_length.Given as goal
+
+abbrev pub invariant-loop-n : goal.invariant-loop-n
+invariant-loop-n l = l.bytes + bytes_of (ops_of (kept_at l.ops.entries) (drop l.n-index l.numbers)) ≡ 9 + bytes_of (ops_of (kept_at l.ops.entries) l.numbers)
