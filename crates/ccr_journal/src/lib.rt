@@ -21,6 +21,3 @@ pub use replies::{ExpiredLeases, Heard, Refusal, Reply, WriteResult, Wrote};
 pub use requests::{SearchRequest, SortKeys, WriteRequest};
 pub use sides::{CopyCount, Phase, Side};
 pub use statuses::{CopyStatus, CopyStatuses, FollowerStatus, KeptLeases};
-
-#[cfg(test)]
-mod tests;

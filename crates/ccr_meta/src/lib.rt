@@ -18,6 +18,3 @@ pub use meta::Meta;
 pub use naming::is_name;
 pub use routing::{route, uuid_of};
 pub use settings::Settings;
-
-#[cfg(test)]
-mod tests;

@@ -37,12 +37,3 @@ pub fn uuid_of(text: &str) -> Uuid
 {
     Uuid::new_v5(&Uuid::nil(), text.as_bytes())
 }
-
-#[cfg(test)]
-mod tests {
-    #[test]
-    fn hashes_are_those_of_fnv_1a(rt: HostRuntime) {
-        assert!(rt; super::fnv_1a(b"a") == 0xaf63dc4c8601ec8c);
-        assert!(rt; super::fnv_1a(b"b") == 0xaf63df4c8601f1a5);
-    }
-}

@@ -33,8 +33,3 @@ pub type Term = u64;
 
 /// A reading of a clock, or a span of time, in milliseconds.
 pub type Millis = u64;
-
-#[cfg(test)]
-mod tests;
-#[cfg(test)]
-mod text_tests;

@@ -16,6 +16,3 @@ pub use restored::{Files, Restored};
 pub use segment::Segment;
 pub use writer::Writer;
 pub use writing::{size, write};
-
-#[cfg(test)]
-mod tests;

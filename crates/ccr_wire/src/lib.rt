@@ -19,6 +19,3 @@ pub use kind::{FrameKind, LeaseResult};
 pub use lists::{Chunk, Ops, Sizes};
 pub use message::Message;
 pub use messages::Messages;
-
-#[cfg(test)]
-mod tests;

@@ -31,6 +31,3 @@ pub use journals::{Entry, Journal};
 pub use law::{every_place, first_path_example, repeated_frame_example};
 pub use replies::{Heard, Hit, Hits, Refusal, Reply, ShardAnswer, WriteResult, Wrote};
 pub use worlds::World;
-
-#[cfg(test)]
-mod tests;

@@ -1,4 +1,4 @@
-use super::*;
+use ccr_op::{BadOp, Batch, Op, decode, encode, measure};
 use std::alloc::{AllocError, Global};
 use std::test::Fail;
 

@@ -1,5 +1,5 @@
-use super::*;
 use ccr_op::Op;
+use ccr_segment::{BadSegment, Segment, size, write};
 use std::alloc::Global;
 use std::test::Fail;
 

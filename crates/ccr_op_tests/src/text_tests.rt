@@ -1,4 +1,4 @@
-use super::*;
+use ccr_op::{Body, DocId, IndexName, LeaseId, Name, Op};
 use std::alloc::Global;
 use std::sync::ArcStr;
 use std::test::Fail;

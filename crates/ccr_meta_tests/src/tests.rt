@@ -1,6 +1,6 @@
 //! Tables of commands, each with its answer behind a bar.
-use crate::{Decided, IndexMeta, Meta, MetaFault, Phases, Settings, route, uuid_of};
 use ccr_auto::Decision;
+use ccr_meta::{Decided, IndexMeta, Meta, MetaFault, Phases, Settings, route, uuid_of};
 use ccr_op::{DocId, IndexName, Name};
 use std::alloc::{AllocError, Global};
 use std::str::SplitWhitespace;
@@ -359,6 +359,19 @@ fn a_routing_text_stands_for_the_id(rt: HostRuntime) -> Result<(), Fail> {
     assert!(rt; shard_by(&a, &b) == 1);
     assert!(rt; shard_by(&b, &a) == 0);
     assert!(rt; route(&b, None, 1) == 0);
+    Ok(())
+}
+
+// The published hashes of FNV-1a with 64 bits, af63dc4c8601ec8c and af63df4c8601f1a5, modulo 2^32 - 1 and
+// modulo 2^32 - 5.
+#[test]
+fn the_hash_is_that_of_fnv_1a(rt: HostRuntime) -> Result<(), Fail> {
+    let a = id(rt.alloc(), "a")?;
+    let b = id(rt.alloc(), "b")?;
+    assert!(rt; route(&a, None, 4_294_967_295) == 895_863_001);
+    assert!(rt; route(&a, None, 4_294_967_291) == 4_076_157_463);
+    assert!(rt; route(&b, None, 4_294_967_295) == 895_865_074);
+    assert!(rt; route(&b, None, 4_294_967_291) == 4_076_162_608);
     Ok(())
 }
 

@@ -1,4 +1,4 @@
-use super::*;
+use ccr_wire::{BadFrame, decode, encode};
 use std::alloc::Global;
 use std::test::Fail;
 

@@ -1,4 +1,7 @@
-use super::*;
+use ccr_journal::{
+    Batch, Boxed, CopyCount, CopyStatus, CopyStatuses, Entry, Event, ExpiredLeases, FollowerStatus,
+    Journal, KeptLeases, ParamValues, Params, Phase, Reply, WriteRequest,
+};
 use ccr_lease::{Expired, Lease};
 use ccr_op::{Body, DocId, LeaseId, Name, Op};
 use ccr_policy::Picks;

@@ -5,7 +5,7 @@ use Rattle.ccr_journal.specs.contracts.events.Event as Event
 use Rattle.ccr_journal.specs.contracts.journals.Entry as Entry
 use Rattle.ccr_journal.specs.contracts.journals.Journal as Journal
 use Rattle.ccr_journal.proofs.Sending.{event_send, entry_send, journal_send}
-use Rattle.ccr_journal.proofs.tests.events_replies_and_journals_go_to_threads.Goals as goal
+use Rattle.ccr_journal_tests.proofs.tests.events_replies_and_journals_go_to_threads.Goals as goal
 
 pub send-requires-send-T : goal.send-requires-send-T
 send-requires-send-T c κs = param_send _ (arg _ no Event.the_row) (arg_send _ no Event.the_row event_send)
