@@ -1,2 +1,3 @@
 pub mod Members
-pub mod Ends
+mod Covered
+mod Kept

@@ -7,10 +7,13 @@
 #![tactic(auto)]
 
 ghost use Rattle.std.specs.Prelude.{◌≡◌, ℕ, ◌<◌, ◌==◌, ◌||◌, ◌&&◌, ◌↔◌, nat_lt, IsTrue, IfOk, OnOk, OnErr, if◌then◌else◌};
-ghost use Rattle.ccr_tracker.specs.Numbers.{AllBelow, HasGap, HoldsBetween, IsCanonical, IsEnd, IsFirstLacking, IsLeastAbsent, OneForm, end_of, filled_below, has, kept_below, marked, no_numbers, risen};
+ghost use Rattle.ccr_tracker.specs.Ranges.{IsNextAbsent};
+ghost use Rattle.ccr_tracker.specs.Numbers.{HasGap, HoldsBetween, IsCanonical, IsEnd, IsFirstLacking, IsLeastAbsent, OneForm, end_of, filled_below, has, kept_below, marked, no_numbers, risen};
 
+mod ranges;
+
+use ranges::Ranges;
 use std::alloc::{AllocError, Global};
-use std::collections::BTreeSet;
 use std::marker::Model;
 
 /// How many numbers from 0 on: one more than a checkpoint.
@@ -23,22 +26,24 @@ pub enum Marked {
     Seen,
 }
 
-/// A set of numbers below `u64::MAX`, kept as its least absent number and the numbers above that,
-/// so that numbers marked in order take no memory.
+/// A set of numbers below `u64::MAX`, kept as its least absent number and the ranges of the numbers above
+/// that: numbers marked in order take no memory, and those above a gap one entry a range.
 #[derive(Drop)]
 pub struct Tracker {
     count: Count,
-    above: BTreeSet<u64>,
+    above: Ranges,
 }
 
 impl Model for Tracker {
-    ghost use Rattle.ccr_tracker.specs.Numbers.{Numbers, IsTracked};
+    ghost use Rattle.std.specs.Prelude.{◌+◌};
+    ghost use Rattle.ccr_tracker.specs.Numbers.{Numbers};
+    ghost use Rattle.ccr_tracker.specs.Ranges.{AreApart, numbers_of};
 
     ghost Value = { Numbers };
 
-    ghost view = { λ t. record { count = t.count; above = t.above.keys } };
+    ghost view = { λ t. record { count = t.count; above = numbers_of t.above } };
 
-    ghost invariant = { λ t. IsTracked t.count t.above.keys };
+    ghost invariant = { λ t. AreApart (t.count + 1) t.above };
 }
 
 impl Tracker {
@@ -48,14 +53,13 @@ impl Tracker {
     {
         Tracker {
             count: 0,
-            above: BTreeSet::new(alloc),
+            above: Ranges::new(alloc),
         }
     }
 
-    /// Adds a number, and says whether it was absent. A number that is the count takes no memory.
-    ///
-    /// Where the number is the count, the numbers above that follow on leave the ordered part; each
-    /// leaves it once. Otherwise the cost is a logarithm of how many numbers are above the count.
+    /// Adds a number, and says whether it was absent. A number that is the count takes no memory, and another
+    /// that is new takes memory for one range at most. The cost is a logarithm of how many ranges are above
+    /// the count.
     pub fn mark(&mut self, n: u64) -> Result<Marked, AllocError>
         requires { n < u64.MAX }
         ensures answer { IfOk result (λ marked. marked ≡ (if has self.old n then Marked.Seen else Marked.New)) }
@@ -67,7 +71,7 @@ impl Tracker {
             return Ok(Marked::Seen);
         }
         if n == self.count {
-            self.count = rise(n + 1, &mut self.above);
+            self.count = self.above.take_from_count(n + 1);
         } else {
             self.above.insert(n)?;
         }
@@ -83,11 +87,11 @@ impl Tracker {
         self.count
     }
 
-    /// Whether the number is in the set. The cost is a logarithm of how many numbers are above the count.
+    /// Whether the number is in the set. The cost is a logarithm of how many ranges are above the count.
     pub fn has(&self, n: u64) -> bool
         ensures { result ≡ has self.now n }
     {
-        n < self.count || self.above.contains(&n)
+        n < self.count || self.above.has(n)
     }
 
     /// Whether a number above the count is in the set.
@@ -102,79 +106,72 @@ impl Tracker {
         ensures value { result ≡ end_of self.now }
         ensures end { IsEnd (has self.now) result }
     {
-        match self.above.last() {
-            Some(last) => *last + 1,
+        match self.above.end() {
+            Some(end) => end,
             None => self.count,
         }
     }
 
     /// The least number that the other set has and this one lacks, or `None` exactly where it lacks none.
-    /// Where this one's count is the lower one that is the answer, at once; otherwise the cost goes with the
-    /// numbers above the other's count.
+    /// Where this one's count is the lower one that is the answer, at once; otherwise the cost is, for each range
+    /// above the other's count, a logarithm of how many ranges are above this one's.
     pub fn first_lacking(&self, of: &Tracker) -> Option<u64>
         ensures { IsFirstLacking (has of.now) (has self.now) result }
     {
         if self.count < of.count {
             return Some(self.count);
         }
-        for n in &of.above {
-            if !self.has(*n) {
-                return Some(*n);
-            }
-        }
-        None
+        of.above.first_outside(self.count, &self.above)
     }
 
-    /// Whether the set has all numbers from `from` on and below `to`. The cost goes with those of them that are
-    /// above the count.
+    /// Whether the set has all numbers from `from` on and below `to`. The cost is a logarithm of how many ranges
+    /// are above the count.
     pub fn has_run(&self, from: u64, to: u64) -> bool
         ensures { IsTrue result ↔ HoldsBetween (has self.now) from to }
     {
-        for n in from.max(self.count)..to {
-            if !self.has(n) {
-                return false;
-            }
-        }
-        true
+        from >= to || self.first_absent_from(from) >= to
     }
 
-    /// Adds all numbers below `n`, and no other.
+    /// Adds all numbers below `n`, and no other. It takes no memory, and its cost goes with the ranges above the
+    /// count that it reaches.
     pub fn fill_below(&mut self, n: Count) -> Result<(), AllocError>
         ensures members { OnOk result ((k : ℕ) → has self.new k ≡ (has self.old k || nat_lt k n)) }
         ensures after { OnOk result (self.new ≡ filled_below self.old n) }
         ensures err { OnErr result (self.new ≡ self.old) }
     {
-        self.count = rise(self.count.max(n), &mut self.above);
+        self.count = self.above.take_from_count(self.count.max(n));
         Ok(())
     }
 
-    /// Forgets all numbers at or above `n`, and no other. It takes no memory, and its cost goes with
-    /// the numbers above the count that it forgets.
+    /// Forgets all numbers at or above `n`, and no other. It takes no memory, and its cost goes with the ranges
+    /// above the count that it reaches.
     pub fn reset_from(&mut self, n: Count)
         ensures members { (k : ℕ) → has self.new k ≡ (has self.old k && nat_lt k n) }
         ensures after { self.new ≡ kept_below self.old n }
     {
         self.count = self.count.min(n);
-        while let Some(last) = self.above.last() {
-            if *last < n {
-                break;
-            }
-            let _ = self.above.pop_last();
-        }
+        self.above.cut_from(n);
     }
 
     /// An equal set.
     pub fn copy(&self, alloc: Global) -> Result<Tracker, AllocError>
         ensures { IfOk result (λ other. other ≡ self.now) }
     {
-        let mut above = BTreeSet::new(alloc);
-        for n in &self.above {
-            above.insert(*n)?;
-        }
         Ok(Tracker {
             count: self.count,
-            above,
+            above: self.above.copy(alloc)?,
         })
+    }
+
+    // The least number from `n` on that is absent.
+    fn first_absent_from(&self, n: u64) -> u64
+        ensures { IsNextAbsent (has self.now) n result }
+    {
+        if n < self.count {
+            self.count
+        } else {
+            self.above.first_absent_from(n)
+        }
     }
 }
 
@@ -182,25 +179,6 @@ impl Tracker {
 pub fn equal_by_members()
     ensures { OneForm }
 {}
-
-// The count of the set of all numbers below `count` and those of `above`, from which the numbers
-// below the new count are taken.
-fn rise(mut count: Count, above: &mut BTreeSet<u64>) -> Count
-    requires { AllBelow u64.MAX above.old.keys }
-    ensures { record { count = result; above = above.new.keys } ≡ risen count above.old.keys }
-{
-    while let Some(first) = above.first() {
-        let first = *first;
-        if first > count {
-            break;
-        }
-        if first == count {
-            count += 1;
-        }
-        let _ = above.pop_first();
-    }
-    count
-}
 
 #[cfg(test)]
 mod tests {
