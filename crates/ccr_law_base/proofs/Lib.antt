@@ -9,3 +9,4 @@ pub mod Ascending
 pub mod Following
 pub mod Picks
 pub mod Settling
+pub mod FileParts

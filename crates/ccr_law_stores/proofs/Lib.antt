@@ -25,9 +25,11 @@ pub mod SmallOperations
 pub mod SpelledEvents
 pub mod SpelledSays
 pub mod SearchOrders
+pub mod Insertions
 pub mod SearchSorts
 pub mod SearchMembers
 pub mod SearchLives
 pub mod SearchViews
 pub mod SearchSays
 pub mod SearchPlaces
+pub mod ShardsJoined

@@ -145,11 +145,6 @@ equal_ids [] a b same =
 equal_ids (key ∷ keys) a b same =
     equal_ids keys a b (then_equal (keys_cmp key.order (key_of key (fields_of_hit a)) (key_of key (fields_of_hit b))) (order_of keys a b) same)
 
-pub less : (o : Ordering) → is_lt o ≡ true → o ≡ Less
-less Less is = refl
-less Equal is = cc
-less Greater is = cc
-
 turned : (o back : Ordering) → back ≡ ordering_reverse o → is_lt o ≡ false → ¬ (o ≡ Equal) → back ≡ Less
 turned Less back by isnt differ = cc
 turned Equal back by isnt differ = absurd (differ refl)

@@ -2,3 +2,4 @@ pub mod TrueStores
 pub mod Spelled
 pub mod Searchable
 pub mod SearchPlaces
+pub mod ShardsJoined

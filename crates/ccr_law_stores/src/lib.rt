@@ -7,8 +7,10 @@
 
 mod holdings;
 mod searches;
+mod several_shards;
 mod spellings;
 
 pub use holdings::{copy_changes, leader_stores, leased_stays, longest_cut, reads, session_files};
 pub use searches::searches_answer;
+pub use several_shards::fronts_join;
 pub use spellings::{source_texts, spelled_operations};
