@@ -1,6 +1,5 @@
 -- What each change of a store's lists keeps, and which store it makes.
-use Rattle.std.proofs.Common.{◌≡◌, ℕ, ◌<◌, ◌≤◌, ◌+◌, ◌==◌, suc, Bool, true, false, not, ◌&&◌, ◌||◌, nat_lt, cond, if◌then◌else◌, Option, Some, None, is_some, List, [], ◌∷◌, ◌++◌, append_assoc, length, length-append, map, refl, sym, ◌∙◌, ap, subst, arith, IsTrue, ◌↔◌}
-use Rattle.std.specs.Prelude.{flat_map}
+use Rattle.std.proofs.Common.{◌≡◌, ℕ, ◌≤◌, ◌+◌, ◌==◌, suc, Bool, true, false, not, ◌&&◌, ◌||◌, cond, if◌then◌else◌, Option, Some, None, is_some, List, [], ◌∷◌, ◌++◌, length, refl, sym, ◌∙◌, ap, subst, arith, IsTrue, ◌↔◌}
 use Rattle.std.specs.List.{AllByRecursion}
 use Rattle.std.specs.List.Sorted.{IsStrictlySortedBy}
 use Rattle.std.specs.Option.{option_map_or}
@@ -18,13 +17,13 @@ use Rattle.std.proofs.lemmas.List.{append-nil, map-append}
 use Rattle.std.proofs.lemmas.Grind.{flat_map-append}
 use Rattle.std.proofs.lemmas.Bool.Decides.{nat_tests}
 use Rattle.ccr_op.specs.Operation.{Operation}
-use Rattle.ccr_model.specs.Operations.{is_empty, is_about, has_number, op_at}
+use Rattle.ccr_model.specs.Operations.{is_about, has_number, op_at}
 use Rattle.ccr_model.specs.Stores.{Store, held, stored, flushed, one_part}
 use Rattle.ccr_store.specs.Kept.{ops_of, parts_of, numbers_of, store_of, keeps_about, listed, one, times, kept_at, lists_of, Closed, Ascend, IsClosed, IsFiled, IsListed, IsKept, IsTaken, IsLeft, IsIndexed}
 use Rattle.ccr_segment.specs.Segment.{spelling as segment_of_ops}
 use Rattle.ccr_law_base.proofs.Lists.{All-append}
 use Rattle.ccr_store.proofs.Lengths.{closed-alike}
-use Rattle.ccr_store.proofs.Filing.{Puts, puts_same, puts_other, times-append, all_numbers, parts-other, ops-insert, times-insert, length-insert, there-from, there-append_back, AreThere, some_is, held-is, length-ops, at-held}
+use Rattle.ccr_store.proofs.Filing.{Puts, puts_same, puts_other, times-append, all_numbers, parts-other, ops-insert, times-insert, there-from, there-append_back, AreThere, some_is, held-is, length-ops, at-held}
 
 -- ---- an operation of a new number
 

@@ -1,6 +1,6 @@
 -- What a cut at a number leaves: of lists of numbers, of what is kept, and of the store that they stand for.
-use Rattle.std.proofs.Common.{◌≡◌, ℕ, ◌<◌, ◌≤◌, ◌+◌, ◌-◌, ◌==◌, suc, Bool, true, false, not, ◌&&◌, ◌||◌, nat_lt, cond, if◌then◌else◌, Option, Some, None, is_some, List, [], ◌∷◌, ◌++◌, append_assoc, length, take, drop, refl, sym, ◌∙◌, ap, subst, arith}
-use Rattle.std.specs.Prelude.{filter, flat_map, count_by}
+use Rattle.std.proofs.Common.{◌≡◌, ℕ, ◌<◌, ◌≤◌, ◌+◌, ◌==◌, suc, Bool, true, false, not, nat_lt, cond, if◌then◌else◌, Option, Some, None, is_some, List, [], ◌∷◌, ◌++◌, length, refl, sym, ◌∙◌, ap, subst, arith}
+use Rattle.std.specs.Prelude.{filter, flat_map}
 use Rattle.std.specs.List.{cons_option, AllByRecursion}
 use Rattle.std.specs.Ordering.{nat_cmp, is_lt}
 use Rattle.std.specs.Set.{remove_key}
@@ -12,12 +12,12 @@ use Rattle.std.proofs.lemmas.List.Elements.{filter-append}
 use Rattle.std.proofs.lemmas.List.Sums.{length-filter}
 use Rattle.std.proofs.lemmas.Map.Keys.{ge_from_not_lt}
 use Rattle.ccr_op.specs.Operation.{Operation}
-use Rattle.ccr_model.specs.Operations.{has_number, is_empty}
+use Rattle.ccr_model.specs.Operations.{has_number}
 use Rattle.ccr_model.specs.Stores.{Store, held, one_part, sifted}
 use Rattle.ccr_model.specs.LeaderRows.{held_from}
-use Rattle.ccr_store.specs.Kept.{ops_of, parts_of, numbers_of, store_of, kept_at, one, times, lists_of, below, cut_lists, part_if_any, Closed, IsBelow, IsClosed, IsFiled, IsIndexed, IsListed, IsKept}
-use Rattle.ccr_store.proofs.Filing.{AreThere, all_numbers, some_is, times-append, there-from, there-append_back, held-is}
-use Rattle.ccr_store.proofs.Changes.{has-held, length-held, indexed-kept}
+use Rattle.ccr_store.specs.Kept.{ops_of, parts_of, numbers_of, store_of, kept_at, one, times, lists_of, below, cut_lists, part_if_any, Closed, IsBelow, IsClosed, IsFiled, IsIndexed, IsKept}
+use Rattle.ccr_store.proofs.Filing.{AreThere, all_numbers, some_is, times-append, there-from, there-append_back}
+use Rattle.ccr_store.proofs.Changes.{has-held, indexed-kept}
 use Rattle.ccr_store.proofs.Lengths.{closed-alike}
 
 -- ---- numbers

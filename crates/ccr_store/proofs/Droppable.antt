@@ -1,6 +1,5 @@
 -- What may go of what is held, by the numbers that are listed for each id.
-use Rattle.std.proofs.Common.{◌≡◌, ℕ, ◌<◌, ◌≤◌, ◌+◌, ◌==◌, Bool, true, false, not, ◌&&◌, ◌||◌, nat_lt, cond, if◌then◌else◌, Option, Some, None, is_some, List, [], ◌∷◌, ◌++◌, refl, sym, ◌∙◌, ap, subst, arith}
-use Rattle.std.specs.Prelude.{filter}
+use Rattle.std.proofs.Common.{◌≡◌, ℕ, ◌≤◌, ◌+◌, ◌==◌, Bool, true, false, not, ◌&&◌, ◌||◌, nat_lt, if◌then◌else◌, Option, Some, None, is_some, List, [], ◌∷◌, refl, sym, ◌∙◌, ap, subst, arith}
 use Rattle.std.specs.List.{list_any, cons_option}
 use Rattle.std.specs.Option.{option_map_or}
 use Rattle.std.specs.BTreeSet.{BTreeSet}
@@ -9,8 +8,8 @@ use Rattle.ccr_op.specs.Operation.{Operation}
 use Rattle.ccr_op.specs.declared.operation.Kind.{Kind}
 use Rattle.ccr_op.specs.declared.operation.Kind.TheVariants.{Index, Delete, NoOp}
 use Rattle.ccr_model.specs.Operations.{is_about}
-use Rattle.ccr_model.specs.Stores.{is_passed, is_least, is_droppable, without_number, dropped, is_among}
-use Rattle.ccr_store.specs.Kept.{ops_of, keeps_about, listed, one, times, IsListed, IsIndexed, IsSomeSuch}
+use Rattle.ccr_model.specs.Stores.{is_passed, is_least, is_droppable, without_number, dropped}
+use Rattle.ccr_store.specs.Kept.{ops_of, keeps_about, listed, one, times, IsIndexed, IsSomeSuch}
 use Rattle.ccr_store.proofs.Filing.{one_none, rest_none}
 
 any-there : (f : ℕ → Option Operation) (T : Operation → Bool) (k : ℕ) (x : Operation) → f k ≡ Some x → T x ≡ true → (ns : List ℕ) → 1 ≤ times k ns → list_any T (ops_of f ns) ≡ true

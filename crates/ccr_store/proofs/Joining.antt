@@ -1,21 +1,17 @@
 -- The store that a merge makes.
-use Rattle.std.proofs.Common.{◌≡◌, ℕ, ◌<◌, ◌≤◌, ◌+◌, ◌==◌, zero, suc, Bool, true, false, not, ◌&&◌, ◌||◌, nat_lt, cond, if◌then◌else◌, Option, Some, None, is_some, List, [], ◌∷◌, ◌++◌, append_assoc, length, map, take, drop, refl, sym, ◌∙◌, ap, subst, arith}
+use Rattle.std.proofs.Common.{◌≡◌, ℕ, ◌≤◌, ◌+◌, ◌==◌, Bool, true, false, not, cond, if◌then◌else◌, Option, Some, None, is_some, List, [], ◌∷◌, ◌++◌, refl, sym, ◌∙◌, ap, subst, arith}
 use Rattle.std.specs.Prelude.{filter, flat_map}
-use Rattle.std.specs.List.{list_any, cons_option, enumerate_from, take_while, AllByRecursion}
-use Rattle.std.specs.Option.{option_map_or}
+use Rattle.std.specs.List.{cons_option, enumerate_from}
 use Rattle.std.specs.Ordering.{nat_cmp}
-use Rattle.std.specs.BTreeSet.{BTreeSet, insert_key}
-use Rattle.std.specs.BTreeMap.{is_at}
+use Rattle.std.specs.BTreeSet.{insert_key}
 use Rattle.std.specs.Cmp.{unsigned_tied}
 use Rattle.std.proofs.lemmas.Bool.Decides.{nat_tests}
-use Rattle.std.proofs.lemmas.List.{append-nil, map-append}
 use Rattle.std.proofs.lemmas.List.Elements.{filter_map-append}
-use Rattle.std.proofs.lemmas.Grind.{flat_map-append}
 use Rattle.ccr_op.specs.Operation.{Operation}
-use Rattle.ccr_model.specs.Operations.{is_empty, with_op, with_ops, ascending}
-use Rattle.ccr_model.specs.Stores.{Store, held, one_part, is_picked, picked_ops, merge_drops, dropped, is_among, parts_at, joined, merged}
-use Rattle.ccr_store.specs.Kept.{ops_of, parts_of, numbers_of, store_of, one, times, IsFiled, IsListed, IsIndexed, IsWithout, picked_numbers, with_keys, part_if_any, joined_numbers, is_pick}
-use Rattle.ccr_store.proofs.Filing.{Puts, times-append, all_numbers, AreThere, some_is, there-from, ops-insert, times-insert, held-is}
+use Rattle.ccr_model.specs.Operations.{with_op, with_ops}
+use Rattle.ccr_model.specs.Stores.{is_picked, is_among}
+use Rattle.ccr_store.specs.Kept.{ops_of, parts_of, one, times, IsWithout, picked_numbers, with_keys, part_if_any, joined_numbers, is_pick}
+use Rattle.ccr_store.proofs.Filing.{Puts, times-append, all_numbers, AreThere, some_is, ops-insert, times-insert}
 
 -- ---- the picked operations in ascending number
 

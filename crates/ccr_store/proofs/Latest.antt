@@ -1,5 +1,5 @@
 -- The operation of greatest number about an id, by the numbers that are listed for the id.
-use Rattle.std.proofs.Common.{◌≡◌, ℕ, ◌<◌, ◌≤◌, ◌+◌, ◌==◌, Bool, true, false, not, ◌&&◌, ◌||◌, nat_lt, cond, if◌then◌else◌, Option, Some, None, is_some, List, [], ◌∷◌, ◌++◌, refl, sym, ◌∙◌, ap, subst, arith}
+use Rattle.std.proofs.Common.{◌≡◌, ℕ, ◌≤◌, ◌+◌, ◌==◌, Bool, true, false, nat_lt, if◌then◌else◌, Option, Some, None, is_some, List, [], ◌∷◌, refl, sym, ◌∙◌, ap, subst, arith}
 use Rattle.std.specs.Prelude.{option_and_then}
 use Rattle.std.specs.List.{cons_option}
 use Rattle.std.specs.Option.{option_map_or}
@@ -7,7 +7,7 @@ use Rattle.std.specs.BTreeSet.{BTreeSet}
 use Rattle.std.proofs.lemmas.Bool.Decides.{nat_tests}
 use Rattle.ccr_op.specs.Operation.{Operation}
 use Rattle.ccr_model.specs.Operations.{is_about, later, greatest_about, only_index, live}
-use Rattle.ccr_model.specs.Stores.{Store, held}
+use Rattle.ccr_model.specs.Stores.{held}
 use Rattle.ccr_store.specs.Kept.{ops_of, numbers_of, store_of, keeps_about, listed, one, times, IsFiled, IsListed, IsGreatest}
 use Rattle.ccr_store.proofs.Filing.{held-is}
 

@@ -1,5 +1,5 @@
 -- The length of a segment, and what a closed part keeps while other operations come and go.
-use Rattle.std.proofs.Common.{Result, Ok, Err, IfOk, ◌≡◌, ℕ, ◌<◌, ◌≤◌, ◌+◌, ◌==◌, suc, Bool, true, false, nat_lt, cond, if◌then◌else◌, Option, Some, None, is_some, List, [], ◌∷◌, ◌++◌, length, length-append, zero, take, drop, get_or, ◌-◌, refl, sym, ◌∙◌, ap, subst, arith}
+use Rattle.std.proofs.Common.{Result, Ok, Err, IfOk, ◌≡◌, ℕ, ◌<◌, ◌≤◌, ◌+◌, ◌==◌, suc, Bool, true, false, nat_lt, cond, if◌then◌else◌, Option, Some, None, List, [], ◌∷◌, ◌++◌, length, length-append, zero, take, drop, get_or, ◌-◌, refl, sym, ◌∙◌, ap, subst, arith}
 use Rattle.std.specs.Prelude.{filter, flat_map}
 use Rattle.std.specs.List.{cons_option, All, AllByRecursion, HoldsAt}
 use Rattle.std.specs.List.Sorted.{IsStrictlySortedBy, IsNonDecreasingBy, IsPartitionPoint}
@@ -14,7 +14,7 @@ use Rattle.ccr_op.specs.Operation.{Operation}
 use Rattle.ccr_op.specs.Spelling.{spelling}
 use Rattle.ccr_segment.specs.Segment.{spelling as segment_of_ops, AscendsFrom}
 use Rattle.ccr_model.specs.Operations.{size_of}
-use Rattle.ccr_store.specs.Kept.{ops_of, kept_at, one, times, lists_of, below, bytes_of, Closed, Ascend, IsClosed}
+use Rattle.ccr_store.specs.Kept.{ops_of, one, times, lists_of, below, bytes_of, Closed, Ascend, IsClosed}
 use Rattle.ccr_store.proofs.Filing.{times-append, all_numbers, ordered}
 
 length-ops_bytes : (ops : List Operation) → length (flat_map spelling ops) ≡ bytes_of ops

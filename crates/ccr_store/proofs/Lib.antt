@@ -9,3 +9,5 @@ pub mod Merging
 pub mod Lengths
 pub mod Cutting
 pub mod Views
+pub mod Filled
+pub mod Walking

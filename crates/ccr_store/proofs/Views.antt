@@ -1,6 +1,6 @@
 -- What is shown of a store's parts: their sizes, their files, and the operation of the next number.
-use Rattle.std.proofs.Common.{◌≡◌, ℕ, ◌<◌, ◌≤◌, ◌+◌, ◌==◌, suc, Bool, true, false, nat_lt, cond, if◌then◌else◌, Option, Some, None, is_some, List, [], ◌∷◌, ◌++◌, append_assoc, length, map, drop, get_or, refl, sym, ◌∙◌, ap, subst, arith}
-use Rattle.std.specs.Prelude.{filter, flat_map, IfSome, slice_get}
+use Rattle.std.proofs.Common.{◌≡◌, ℕ, ◌<◌, ◌≤◌, ◌+◌, Bool, true, false, nat_lt, cond, Option, Some, None, is_some, List, [], ◌∷◌, ◌++◌, append_assoc, length, map, drop, get_or, refl, sym, ◌∙◌, ap, subst, arith}
+use Rattle.std.specs.Prelude.{filter, flat_map}
 use Rattle.std.specs.List.{cons_option, AllByRecursion}
 use Rattle.std.specs.Option.{option_to_list}
 use Rattle.std.specs.Ordering.{nat_cmp, is_gt, match_ordering}
@@ -9,16 +9,14 @@ use Rattle.std.specs.Map.{keys_of}
 use Rattle.std.specs.BTreeMap.{insert_entry}
 use Rattle.std.proofs.lemmas.Map.Keys.{sorted_head, sorted_tail}
 use Rattle.std.specs.declared.cmp.Ordering.TheVariants.{Less, Equal, Greater}
-use Rattle.std.proofs.lemmas.Bool.Decides.{nat_tests}
 use Rattle.std.proofs.lemmas.List.{drop_more, map-append}
 use Rattle.std.proofs.lemmas.List.Elements.{filter-append}
 use Rattle.ccr_op.specs.Operation.{Operation}
 use Rattle.ccr_policy.specs.declared.PartSize.{PartSize}
 use Rattle.ccr_segment.specs.Segment.{spelling as segment_of_ops}
-use Rattle.ccr_model.specs.Operations.{op_at, has_number}
-use Rattle.ccr_model.specs.Stores.{Store, held, one_part, sifted, files_below}
+use Rattle.ccr_model.specs.Stores.{held, one_part, files_below}
 use Rattle.ccr_model.specs.Policies.{sizes_in, size_of_part}
-use Rattle.ccr_store.specs.Kept.{ops_of, parts_of, store_of, kept_at, lists_of, part_size, files_of, numbers_of, Closed, IsClosed, IsFiled, IsKept, IsNext}
+use Rattle.ccr_store.specs.Kept.{ops_of, parts_of, store_of, kept_at, lists_of, part_size, files_of, numbers_of, Closed, IsClosed, IsFiled, IsNext}
 use Rattle.ccr_store.proofs.Filing.{AreThere, all_numbers, there-from, there-append_front, there-append_back, length-ops, at-held, ordered}
 use Rattle.ccr_store.proofs.Changes.{has-held}
 

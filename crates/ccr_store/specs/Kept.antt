@@ -1,21 +1,22 @@
 -- How a store keeps its operations: each under its number, the numbers of each part, and for each id the numbers of the operations
 -- about it.
-use Rattle.std.specs.Prelude.{◌≡◌, ℕ, ◌≤◌, ◌+◌, ◌==◌, Bool, true, false, ◌&&◌, ◌||◌, not, nat_lt, List, [], ◌∷◌, ◌++◌, length, map, flat_map, filter, Option, Some, None, is_some, MatchOption, cond, if◌then◌else◌}
+use Rattle.std.specs.Prelude.{◌≡◌, ℕ, ◌≤◌, ◌+◌, ◌==◌, count_by, Bool, true, false, nat_lt, List, [], ◌∷◌, ◌++◌, length, map, flat_map, filter, Option, Some, None, is_some, MatchOption, cond, if◌then◌else◌}
 use Rattle.std.specs.Bool.{MatchBool}
-use Rattle.std.specs.Option.{option_map_or}
+use Rattle.std.specs.Option.{option_map_or, option_or}
 use Rattle.std.specs.List.{filter_map, list_any}
 use Rattle.std.specs.Map.{lookup}
 use Rattle.std.specs.BTreeMap.{is_at}
 use Rattle.std.specs.BTreeSet.{BTreeSet, insert_key}
 use Rattle.std.specs.Ordering.{nat_cmp}
+use Rattle.std.specs.declared.cmp.Ordering.TheVariants.{Less}
 use Rattle.std.specs.Cmp.Lexicographic.{slice_cmp}
 use Rattle.std.specs.declared.vec.Vec.{Vec}
 use Rattle.std.specs.declared.alloc.Global.{Global}
 use Rattle.std.specs.List.{AllByRecursion}
-use Rattle.ccr_op.specs.Operation.{Operation}
+use Rattle.ccr_op.specs.Operation.{Operation, id_of}
 use Rattle.ccr_policy.specs.declared.PartSize.{PartSize}
 use Rattle.ccr_segment.specs.Segment.{spelling as segment_of_ops}
-use Rattle.ccr_model.specs.Operations.{is_about, has_number, op_at, size_of}
+use Rattle.ccr_model.specs.Operations.{is_about, has_number, live, op_at, size_of}
 use Rattle.ccr_model.specs.Stores.{Store, is_among, one_part}
 
 -- the operation that is kept under a number
@@ -191,6 +192,51 @@ IsNext n ops found =
     MatchOption found ((k : ℕ) → n ≤ k → has_number ops k ≡ false)
     (λ op. (op_at op.seq ops ≡ Some op) × (n ≤ op.seq) × ((k : ℕ) → n ≤ k → has_number ops k ≡ true → op.seq ≤ k))
 
+-- an id comes after this one; each does where there is none
+abbrev pub IsAfter : Option (List ℕ) → List ℕ → Type 0
+IsAfter None id = Unit {0}
+IsAfter (Some from) id = slice_cmp nat_cmp from id ≡ Less
+
+-- of the ids after this one that have a live document, the operation is the least one's
+pub record IsFirstLive (ops : List Operation) (from : Option (List ℕ)) (op : Operation) : Type 0 where
+  pub id : List ℕ
+  pub about : id_of op.kind ≡ Some id
+  pub is_live : live ops id ≡ Some op
+  pub after : IsAfter from id
+  pub least : (other : List ℕ) → IsAfter from other → slice_cmp nat_cmp other id ≡ Less → live ops other ≡ None
+
+-- the operation of the least id after this one that has a live document, or none
+abbrev pub IsNextLive : List Operation → Option (List ℕ) → Option Operation → Type 0
+IsNextLive ops from found = MatchOption found ((id : List ℕ) → IsAfter from id → live ops id ≡ None) (IsFirstLive ops from)
+
+-- the live operation about the first of these ids that has one
+abbrev pub first_live : List Operation → List (List ℕ) → Option Operation
+first_live ops [] = None
+first_live ops (id ∷ ids) = option_or (live ops id) (first_live ops ids)
+
 -- a place is among the picks
 abbrev pub is_pick : List ℕ → ℕ → Bool
 is_pick picks place = list_any (λ pick. pick == place) picks
+
+-- ---- a store from files
+
+-- the numbers of operations
+abbrev pub numbers_in : List Operation → List ℕ
+numbers_in ops = map {A = Operation} {B = ℕ} (λ op. op.seq) ops
+
+-- the operations of all files
+abbrev pub all_of : List (List Operation) → List Operation
+all_of files = flat_map {X = List Operation} {A = Operation} (λ file. file) files
+
+-- the closed part of a file's operations
+abbrev pub closed_of : List Operation → Closed
+closed_of file = record { numbers = numbers_in file; bytes = length (segment_of_ops file) }
+
+-- no number stands twice
+abbrev pub AreOnce : List Operation → Type 0
+AreOnce ops = (n : ℕ) → count_by (λ op. op.seq == n) ops ≤ 1
+
+-- these operations are kept, each under its number and listed for its id, and no others
+pub record IsHolding (all : List Operation) (ops : List (ℕ × Operation)) (ids : List (List ℕ × BTreeSet ℕ)) : Type 0 where
+  pub kept : (n : ℕ) → kept_at ops n ≡ op_at n all
+  pub lists : IsListed (kept_at ops) ids

@@ -7,6 +7,7 @@
 mod by_id;
 mod cuts;
 mod files;
+mod filling;
 mod merges;
 mod parts;
 mod store;

@@ -1,24 +1,29 @@
 ghost use Rattle.std.specs.Prelude.{◌≡◌, ℕ, ◌<◌, ◌≤◌, ◌^◌, ◌==◌, [], true, false, nat_lt, length, map, flat_map, count_by, OnOk, OnErr, IfOk, IfErr, option_copied};
 ghost use Rattle.std.specs.BTreeMap.{insert_entry};
+ghost use Rattle.std.specs.Map.{keys_of};
 ghost use Rattle.std.specs.Ordering.{nat_cmp};
 ghost use Rattle.ccr_segment.specs.Segment.{spelling as segment_of_ops};
 ghost use Rattle.ccr_model.specs.Operations.{has_number, is_empty, live, only_index, op_at};
 ghost use Rattle.ccr_model.specs.Stores.{empty_store, files_below, flushed, held, merge_drops, merged, sifted, stored};
 ghost use Rattle.ccr_model.specs.Policies.{sizes_in};
 ghost use Rattle.ccr_model.specs.LeaderRows.{held_from};
-ghost use Rattle.ccr_store.specs.Kept.{kept_at, contents_of, ops_of, part_size, Ascend, IsTaken, IsLeft, IsNext};
+ghost use Rattle.ccr_store.specs.Kept.{kept_at, contents_of, ops_of, part_size, Ascend, IsTaken, IsLeft, IsNext, IsNextLive, first_live};
 
 use crate::by_id::{ById, greatest, note, release};
 use crate::cuts::{cut_numbers, cut_parts, drop_from};
 use crate::files;
+use crate::filling::take_files;
 use crate::merges::{drop_all, join, numbers_at, picked_places, take_kept};
 use crate::parts::{Part, segment_length};
 use ccr_op::{DocId, Kind, Op};
 use ccr_policy::{PartSize, Picks};
+use ccr_segment::Segment;
 use std::alloc::{AllocError, AllocFailed, Global};
+use std::collections::btree_map::Range;
 use std::collections::{BTreeMap, BTreeSet};
 use std::marker::Model;
 use std::mem;
+use std::ops::Bound;
 
 /// What a copy holds: closed parts, and one part that still takes operations. Each number is held once.
 #[derive(Drop)]
@@ -52,6 +57,24 @@ impl Store {
             fresh: BTreeSet::new(alloc),
             ids: BTreeMap::new(alloc),
         }
+    }
+
+    /// The store whose closed parts are these files, in their order, with an open part that has no operation. Each
+    /// operation is read once, and comes under its number at a logarithm; a file is let go once it is read.
+    pub fn from_files(alloc: Global, files: Vec<Segment>) -> Result<Store, AllocError>
+        requires { (n : ℕ) → count_by (λ op. op.seq == n) (held (record { parts = files.items; open_part = [] })) ≤ 1 }
+        ensures { IfOk result (λ store. store ≡ record { parts = files.items; open_part = [] }) }
+    {
+        let mut ops = BTreeMap::new(alloc);
+        let mut ids = BTreeMap::new(alloc);
+        let fresh = BTreeSet::new(alloc);
+        let parts = take_files(alloc, files, &mut ops, &mut ids)?;
+        Ok(Store {
+            ops,
+            parts,
+            fresh,
+            ids,
+        })
     }
 
     /// Takes an operation whose number it does not hold into the open part. After want of memory it is as
@@ -240,6 +263,34 @@ impl Store {
             Some((_, op)) => Some(op),
             None => None,
         }
+    }
+}
+
+impl Store {
+    /// The live document of least id after the given one, or the least of all where none is given: by it a search
+    /// reads the live documents one after another in the order of their ids, without a copy. It answers the
+    /// operation that put the document in place. The cost is a logarithm, and one more for each id that is passed
+    /// because its document is deleted.
+    pub fn live_after(&self, id: Option<&DocId>) -> Option<&Op>
+        ensures { IsNextLive (held self.now) (option_copied id.entry) (option_copied result) }
+    {
+        match id {
+            Some(id) => self.first_live(self.ids.range((Bound::Excluded(id), Bound::Unbounded))),
+            None => self.first_live(self.ids.range(..)),
+        }
+    }
+
+    /// The live document of the first of these ids that has one.
+    fn first_live(&self, ids: Range<'_, DocId, BTreeSet<u64>>) -> Option<&Op>
+        ensures { option_copied result ≡ first_live (held self.now) (keys_of ids.entry) }
+    {
+        for (id, _) in ids {
+            let found = self.live(id);
+            if found.is_some() {
+                return found;
+            }
+        }
+        None
     }
 }
 

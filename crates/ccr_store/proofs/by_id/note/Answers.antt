@@ -1,4 +1,4 @@
-use Rattle.std.proofs.Common.{◌≡◌, ℕ, List, Option, Some, None, Bool, true, false, cond, ◌||◌, ◌==◌, ◌∙◌, ap, sym, refl, subst, is_some}
+use Rattle.std.proofs.Common.{◌≡◌, ℕ, List, Option, Some, None, ◌||◌, ◌==◌, ◌∙◌, ap, sym, subst, is_some}
 use Rattle.std.specs.Option.{option_copied, option_copied_mut}
 use Rattle.std.specs.List.{list_any}
 use Rattle.std.specs.BTreeSet.{BTreeSet}

@@ -1,4 +1,4 @@
-use Rattle.std.proofs.Common.{◌≡◌, ℕ, List, Option, Some, Bool, not, ◌&&◌, ◌==◌, ◌∙◌, ap, sym, is_some}
+use Rattle.std.proofs.Common.{◌≡◌, ℕ, Option, Some, not, ◌&&◌, ◌==◌, ◌∙◌, ap, sym, is_some}
 use Rattle.std.specs.Option.{option_copied_mut}
 use Rattle.std.specs.BTreeSet.{BTreeSet}
 use Rattle.ccr_store.specs.Kept.{has_listed}

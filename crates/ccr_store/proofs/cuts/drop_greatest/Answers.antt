@@ -1,4 +1,3 @@
-use Rattle.std.proofs.Common.{◌≡◌, ℕ, ◌+◌, ◌-◌, ◌<◌, ◌≤◌, ◌++◌, ◌∷◌, [], Bool, true, false, not, nat_lt, Option, Some, None, is_some, List, Vec, Global, length, map, take, drop, get_or, refl, sym, ◌∙◌, ap, subst, IfOk, arith}
 use Rattle.ccr_store.proofs.Lengths.{up-to-below}
 use Rattle.ccr_store.proofs.Cutting.{below-all}
 use Rattle.ccr_store.proofs.cuts.drop_greatest.Goals as goal

@@ -1,4 +1,4 @@
-use Rattle.std.proofs.Common.{◌≡◌, ℕ, ◌+◌, ◌-◌, ◌<◌, ◌≤◌, ◌++◌, ◌∷◌, [], Bool, true, false, not, nat_lt, Option, Some, None, is_some, List, Vec, Global, length, map, take, drop, get_or, refl, sym, ◌∙◌, ap, subst, IfOk, arith}
+use Rattle.std.proofs.Common.{nat_lt, sym, ◌∙◌, subst}
 use Rattle.ccr_segment.specs.Segment.{AscendsFrom}
 use Rattle.ccr_store.specs.Kept.{kept_at}
 use Rattle.ccr_store.proofs.Lengths.{ascend-ops}

@@ -1,4 +1,4 @@
-use Rattle.std.proofs.Common.{◌≡◌, ℕ, ◌+◌, ◌-◌, ◌<◌, ◌≤◌, ◌++◌, ◌∷◌, [], Bool, true, false, not, nat_lt, Option, Some, None, is_some, List, Vec, Global, length, map, take, drop, get_or, refl, sym, ◌∙◌, ap, subst, IfOk, arith}
+use Rattle.std.proofs.Common.{◌++◌, map}
 use Rattle.ccr_segment.specs.Segment.{spelling as segment_of_ops}
 use Rattle.ccr_store.specs.Kept.{kept_at, lists_of, contents_of, files_of}
 use Rattle.ccr_store.proofs.Views.{files-turn}

@@ -1,6 +1,5 @@
-use Rattle.std.proofs.Common.{◌≡◌, ℕ, Option, Some, None, cond, if◌then◌else◌, ◌==◌, ◌∙◌, ap, sym}
+use Rattle.std.proofs.Common.{None, cond, ◌∙◌, ap, sym}
 use Rattle.std.specs.Cmp.{unsigned_tied}
-use Rattle.ccr_op.specs.Operation.{Operation}
 use Rattle.ccr_store.specs.Kept.{kept_at}
 use Rattle.ccr_store.proofs.Droppable.{indexed-fewer}
 use Rattle.ccr_store.proofs.merges.drop_op.Goals as goal

@@ -1,8 +1,7 @@
-use Rattle.std.proofs.Common.{◌≡◌, ℕ, List, Bool, true, false, not, ◌||◌, ◌&&◌, nat_lt, ◌∙◌, ap, sym, refl, subst, arith}
+use Rattle.std.proofs.Common.{◌≡◌, true, false, not, ◌||◌, ◌&&◌, nat_lt, ◌∙◌, ap, sym, subst, arith}
 use Rattle.std.proofs.lemmas.Bool.Decides.{nat_tests}
-use Rattle.ccr_op.specs.declared.operation.Kind.TheVariants.{Index, Delete, NoOp}
 use Rattle.ccr_model.specs.Stores.{is_passed, is_least}
-use Rattle.ccr_store.specs.Kept.{ops_of, listed, IsIndexed, IsSomeSuch}
+use Rattle.ccr_store.specs.Kept.{ops_of, listed, IsSomeSuch}
 use Rattle.ccr_store.proofs.Droppable.{passed-by, least-by, index-droppable, delete-droppable}
 use Rattle.ccr_store.proofs.merges.is_needless.Goals as goal
 

@@ -1,4 +1,4 @@
-use Rattle.std.proofs.Common.{◌≡◌, ℕ, ◌+◌, ◌-◌, ◌<◌, ◌≤◌, ◌++◌, ◌∷◌, [], Bool, true, false, not, nat_lt, Option, Some, None, is_some, List, Vec, Global, length, map, take, drop, get_or, refl, sym, ◌∙◌, ap, subst, IfOk, arith}
+use Rattle.std.proofs.Common.{◌≡◌, ◌+◌, drop, get_or, arith}
 use Rattle.ccr_store.specs.Kept.{kept_at, ops_of, bytes_of}
 use Rattle.ccr_store.proofs.Lengths.{bytes-turn, size_in}
 use Rattle.ccr_store.proofs.parts.bytes_at.Goals as goal

@@ -1,4 +1,4 @@
-use Rattle.std.proofs.Common.{◌≡◌, ℕ, ◌+◌, ◌-◌, ◌<◌, ◌≤◌, ◌++◌, ◌∷◌, [], Bool, true, false, not, nat_lt, Option, Some, None, is_some, List, length, map, take, drop, get_or, refl, sym, ◌∙◌, ap, subst, arith}
+use Rattle.std.proofs.Common.{◌≡◌, ◌+◌, drop}
 use Rattle.ccr_store.specs.Kept.{bytes_of, kept_at, ops_of}
 use Rattle.ccr_store.proofs.parts.segment_length.Given as goal
 

@@ -1,4 +1,4 @@
-use Rattle.std.proofs.Common.{◌≡◌, ℕ, ◌+◌, ◌-◌, ◌<◌, ◌≤◌, ◌++◌, ◌∷◌, [], Bool, true, false, not, nat_lt, Option, Some, None, is_some, List, Vec, Global, length, map, take, drop, get_or, refl, sym, ◌∙◌, ap, subst, IfOk, arith}
+use Rattle.std.proofs.Common.{◌≡◌, ℕ, Vec, Global, sym, subst, IfOk}
 use Rattle.std.proofs.Common.{rules}
 use Rattle.ccr_store.specs.Kept.{Ascend}
 use Rattle.ccr_store.proofs.Lengths.{ascend-sorted, ok_by}

@@ -1,5 +1,5 @@
-use Rattle.std.proofs.Common.{◌≡◌, ℕ, ◌+◌, ◌-◌, ◌<◌, ◌≤◌, ◌++◌, ◌∷◌, [], Bool, true, false, not, nat_lt, Option, Some, None, is_some, List, Vec, Global, length, map, take, drop, get_or, refl, sym, ◌∙◌, ap, subst, IfOk, arith}
-use Rattle.ccr_store.specs.Kept.{kept_at, ops_of, below, bytes_of, Closed, IsClosed}
+use Rattle.std.proofs.Common.{◌≡◌, ℕ, ◌-◌, ◌<◌, ◌≤◌, List, length, take, drop, sym, ◌∙◌, subst, arith}
+use Rattle.ccr_store.specs.Kept.{kept_at, ops_of, below, bytes_of, IsClosed}
 use Rattle.ccr_store.proofs.Lengths.{cut-made, rest-within}
 use Rattle.ccr_store.proofs.parts.Part.cut.Goals as goal
 

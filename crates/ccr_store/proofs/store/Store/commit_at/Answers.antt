@@ -1,8 +1,8 @@
-use Rattle.std.proofs.Common.{◌≡◌, ℕ, ◌+◌, ◌-◌, ◌<◌, ◌≤◌, ◌++◌, ◌∷◌, [], Bool, true, false, not, nat_lt, Option, Some, None, is_some, List, Vec, Global, length, map, take, drop, get_or, refl, sym, ◌∙◌, ap, subst, IfOk, arith}
+use Rattle.std.proofs.Common.{◌≡◌, ℕ, ◌++◌, nat_lt, Vec, Global, map, ◌∙◌, ap}
 use Rattle.std.specs.Prelude.{filter}
 use Rattle.ccr_segment.specs.Segment.{spelling as segment_of_ops}
 use Rattle.ccr_model.specs.Stores.{files_below, one_part}
-use Rattle.ccr_store.specs.Kept.{kept_at, lists_of, store_of, ops_of, contents_of, files_of}
+use Rattle.ccr_store.specs.Kept.{kept_at, lists_of, ops_of, contents_of, files_of}
 use Rattle.ccr_store.proofs.Lengths.{ok_by}
 use Rattle.ccr_store.proofs.Views.{files-are}
 use Rattle.ccr_store.proofs.store.Store.commit_at.Goals as goal

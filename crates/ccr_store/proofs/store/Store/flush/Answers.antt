@@ -1,6 +1,6 @@
-use Rattle.std.proofs.Common.{◌≡◌, ℕ, List, [], ◌∷◌, ◌++◌, ◌∙◌, ap, sym, subst, length, ◌≤◌}
+use Rattle.std.proofs.Common.{◌≡◌, ℕ, List, [], ◌∷◌, ◌++◌, ◌∙◌, ap, subst, length}
 use Rattle.ccr_segment.specs.Segment.{spelling as segment_of_ops}
-use Rattle.ccr_model.specs.Stores.{Store as Stored, flushed}
+use Rattle.ccr_model.specs.Stores.{flushed}
 use Rattle.ccr_store.specs.Kept.{kept_at, ops_of, lists_of, store_of, Closed, Ascend}
 use Rattle.ccr_store.proofs.Changes.{store-flushed, some_keys, kept-flushed, lists-pushed}
 use Rattle.ccr_store.proofs.store.Store.flush.Goals as goal

@@ -1,4 +1,4 @@
-use Rattle.std.proofs.Common.{◌∙◌, ap, sym, length}
+use Rattle.std.proofs.Common.{◌∙◌, ap, sym}
 use Rattle.ccr_model.specs.Operations.{op_at}
 use Rattle.ccr_model.specs.Stores.{Store as Stored, held}
 use Rattle.ccr_store.specs.Kept.{lists_of, kept_at}

@@ -1,6 +1,6 @@
 use Rattle.std.proofs.Common.{◌∙◌, ap, sym, length}
 use Rattle.ccr_model.specs.Stores.{Store as Stored, held}
-use Rattle.ccr_store.specs.Kept.{lists_of, kept_at}
+use Rattle.ccr_store.specs.Kept.{lists_of}
 use Rattle.ccr_store.proofs.Changes.{length-held}
 use Rattle.ccr_store.proofs.store.Store.held.Goals as goal
 

@@ -1,7 +1,7 @@
-use Rattle.std.proofs.Common.{◌≡◌, Option, Some, None, ℕ, ◌∙◌, ap, sym, subst, length}
+use Rattle.std.proofs.Common.{◌≡◌, Some, None, ◌∙◌, ap, sym, subst}
 use Rattle.std.specs.Option.{option_copied}
 use Rattle.ccr_op.specs.Operation.{Operation}
-use Rattle.ccr_model.specs.Operations.{live, is_about, only_index}
+use Rattle.ccr_model.specs.Operations.{live, only_index}
 use Rattle.ccr_model.specs.Stores.{Store as Stored, held}
 use Rattle.ccr_store.specs.Kept.{lists_of, kept_at, store_of, listed, IsGreatest}
 use Rattle.ccr_store.proofs.Latest.{live-none, live-some}

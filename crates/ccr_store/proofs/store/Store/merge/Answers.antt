@@ -1,10 +1,10 @@
-use Rattle.std.proofs.Common.{◌≡◌, ◌≤◌, ℕ, List, Some, true, Vec, Global, is_some, length, ◌∙◌, ap, sym, subst, arith}
+use Rattle.std.proofs.Common.{◌≡◌, ◌≤◌, ℕ, List, Some, true, Vec, Global, length, ◌∙◌, ap, sym, subst, arith}
 use Rattle.std.specs.BTreeSet.{contains}
 use Rattle.std.specs.Ordering.{nat_cmp}
 use Rattle.ccr_segment.specs.Segment.{spelling as segment_of_ops}
 use Rattle.ccr_model.specs.Stores.{Store as Stored, held, merge_drops, merged, dropped, is_among}
 use Rattle.ccr_model.specs.Operations.{has_number}
-use Rattle.ccr_store.specs.Kept.{kept_at, ops_of, numbers_of, store_of, times, lists_of, joined_numbers, Closed, Ascend, IsFiled, IsKept}
+use Rattle.ccr_store.specs.Kept.{kept_at, ops_of, numbers_of, store_of, times, lists_of, joined_numbers, Ascend, IsKept}
 use Rattle.ccr_store.specs.declared.parts.Part.{Part}
 use Rattle.ccr_store.proofs.Changes.{indexed-kept}
 use Rattle.ccr_store.proofs.Merging.{all_picked, left_of, all-once, drops-are, store-merged, all-read, lists-made, kept-merged, left-within, fewer-held}

@@ -1,11 +1,11 @@
-use Rattle.std.proofs.Common.{◌≡◌, ℕ, ◌+◌, ◌-◌, ◌<◌, ◌≤◌, ◌++◌, ◌∷◌, [], Bool, true, false, not, nat_lt, Option, Some, None, is_some, List, Vec, Global, length, map, take, drop, get_or, refl, sym, ◌∙◌, ap, subst, IfOk, arith}
+use Rattle.std.proofs.Common.{◌≡◌, ℕ, ◌∷◌, Some, None, List, subst}
 use Rattle.std.specs.Prelude.{IfSome, slice_get}
 use Rattle.std.specs.Ordering.{nat_cmp}
 use Rattle.std.specs.BTreeMap.Range.{IsEntryInRange, IsLeBy}
 use Rattle.std.specs.declared.ops.Bound.TheVariants.{Included, Unbounded}
 use Rattle.ccr_op.specs.Operation.{Operation}
 use Rattle.ccr_model.specs.Stores.{Store as Stored, held}
-use Rattle.ccr_store.specs.Kept.{kept_at, lists_of, store_of, IsNext}
+use Rattle.ccr_store.specs.Kept.{kept_at, lists_of, IsNext}
 use Rattle.ccr_store.proofs.Views.{next-some, next-none}
 use Rattle.ccr_store.proofs.store.Store.next_from.Goals as goal
 

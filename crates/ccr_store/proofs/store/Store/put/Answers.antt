@@ -1,8 +1,8 @@
-use Rattle.std.proofs.Common.{◌≡◌, ℕ, List, None, ◌∙◌, ap, sym, subst, length, ◌&&◌, ◌==◌, not}
+use Rattle.std.proofs.Common.{◌≡◌, ℕ, List, ◌∙◌, ap, subst, ◌&&◌, ◌==◌, not}
 use Rattle.ccr_op.specs.Operation.{Operation}
 use Rattle.ccr_model.specs.Operations.{has_number, is_about}
 use Rattle.ccr_model.specs.Stores.{Store as Stored, held, stored}
-use Rattle.ccr_store.specs.Kept.{lists_of, kept_at, store_of, listed}
+use Rattle.ccr_store.specs.Kept.{lists_of, kept_at, listed}
 use Rattle.ccr_store.proofs.Changes.{not_held, listed-same, listed-undone, kept-taken, store-taken, kept-left, store-left}
 use Rattle.ccr_store.proofs.store.Store.put.Goals as goal
 

@@ -1,4 +1,4 @@
-use Rattle.std.proofs.Common.{◌≡◌, ℕ, ◌+◌, ◌-◌, ◌<◌, ◌≤◌, ◌++◌, ◌∷◌, [], Bool, true, false, not, nat_lt, Option, Some, None, is_some, List, Vec, Global, length, map, take, drop, get_or, refl, sym, ◌∙◌, ap, subst, IfOk, arith}
+use Rattle.std.proofs.Common.{◌≡◌, ◌-◌, ◌≤◌, nat_lt, Vec, Global, length, sym, ◌∙◌, ap, arith}
 use Rattle.ccr_model.specs.Operations.{has_number}
 use Rattle.ccr_model.specs.Stores.{Store as Stored, held, sifted}
 use Rattle.ccr_model.specs.LeaderRows.{held_from}

@@ -1,7 +1,7 @@
-use Rattle.std.proofs.Common.{◌≡◌, ℕ, ◌+◌, ◌-◌, ◌<◌, ◌≤◌, ◌++◌, ◌∷◌, [], Bool, true, false, not, nat_lt, Option, Some, None, is_some, List, Vec, Global, length, map, take, drop, get_or, refl, sym, ◌∙◌, ap, subst, IfOk, arith}
+use Rattle.std.proofs.Common.{◌≡◌, Vec, Global, map, ◌∙◌, ap}
 use Rattle.ccr_policy.specs.declared.PartSize.{PartSize}
 use Rattle.ccr_model.specs.Policies.{sizes_in}
-use Rattle.ccr_store.specs.Kept.{kept_at, lists_of, store_of, part_size}
+use Rattle.ccr_store.specs.Kept.{part_size}
 use Rattle.ccr_store.proofs.Lengths.{ok_by}
 use Rattle.ccr_store.proofs.Views.{sizes-are}
 use Rattle.ccr_store.proofs.store.Store.sizes.Goals as goal
