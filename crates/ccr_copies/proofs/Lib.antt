@@ -1,0 +1,5 @@
+pub mod Places
+pub mod Rows
+pub mod Holding
+pub mod Progress
+pub mod Walking
