@@ -1,0 +1,9 @@
+pub mod Matches
+pub mod Sending
+pub mod Places
+pub mod Times
+pub mod Laws
+pub mod Hearing
+pub mod Saturation
+pub mod Resting
+pub mod Calls

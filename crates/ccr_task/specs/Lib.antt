@@ -1,0 +1,6 @@
+pub mod Shown
+pub mod Does
+pub mod Ordering
+pub mod Takes
+pub mod Ends
+pub mod Keeps
