@@ -1,0 +1,10 @@
+pub mod Asked
+pub mod Due
+pub mod Fetched
+pub mod Histories
+pub mod Opened
+pub mod Received
+pub mod Rows
+pub mod Settled
+pub mod Stale
+pub mod Written

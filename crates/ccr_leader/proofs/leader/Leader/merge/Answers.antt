@@ -1,0 +1,18 @@
+use Rattle.std.proofs.Common.{sym, subst}
+use Rattle.ccr_model.specs.Copies.{copy_of}
+use Rattle.ccr_model.specs.Leaders.{Leader}
+use Rattle.ccr_law_settling_grounds.specs.Parked.{AreKeptRightly}
+use Rattle.ccr_law_settling_grounds.proofs.Wait.Rows.{merge_stays}
+use Rattle.ccr_leader.proofs.Due.{kept-along, kept-refused}
+use Rattle.ccr_leader.proofs.leader.Leader.merge.Goals as goal
+
+pub invariant_of-self : goal.invariant_of-self
+invariant_of-self c = λ whole.
+    kept-along c.self.inside.copies c.merge.new.self _ _ c.self.inside.kept c.in-Ok.ensures.ok
+    (merge_stays c.self.inside.copies _ c.args.copy c.args.picks.now (copy_of c.self.inside.copies c.args.copy)) (c.self.invariant whole)
+
+pub invariant_of-self-in-Err : goal.invariant_of-self-in-Err
+invariant_of-self-in-Err c =
+    let kept : AreKeptRightly c.self.inside.copies c.self.inside.kept = subst (λ (l : Leader). AreKeptRightly l.copies l.kept) (sym c.self.view_is) c.in_ok-is_whole.ensures.ok in
+    kept-refused c.self.inside.copies c.merge.new.self _ c.in-Err.fault c.noted.new.broken c.self.inside.kept c.in-Err.ensures.err
+    (merge_stays c.self.inside.copies _ c.args.copy c.args.picks.now (copy_of c.self.inside.copies c.args.copy)) kept c.noted.ensures.broken
