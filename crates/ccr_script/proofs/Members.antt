@@ -1,6 +1,6 @@
 -- The members of an object, and the fields of a command.
 use Rattle.std.proofs.Common.{◌≡◌, ℕ, ◌+◌, ◌<◌, ◌≤◌, List, [], ◌∷◌, Bool, true, false, ◌&&◌, length, get_or, drop, map, refl, sym, ap, ◌∙◌, Some, String, Global, string_bytes}
-use Rattle.std.specs.Prelude.{Option, None, is_some}
+use Rattle.std.specs.Prelude.{Option, None, is_some, ◌==◌, if◌then◌else◌}
 use Rattle.std.specs.Option.{option_map_or}
 use Rattle.std.specs.Str.{bytes_eq}
 use Rattle.std.proofs.lemmas.List.{drop_more, drop_all}
@@ -10,10 +10,11 @@ use Rattle.serde_json.specs.Find.{as_object}
 use Rattle.serde_json.specs.View.{view, members_view}
 use Rattle.serde_json.specs.declared.value.Value.{Value}
 use Rattle.ccr_script.specs.declared.fields.Field.{Field}
-use Rattle.ccr_script.specs.Grammar.{name_of, kind_of, fields_of, first_named}
+use Rattle.ccr_script.specs.Grammar.{name_of, kind_of, fields_of, first_named, first_byte, op_named}
 use Rattle.ccr_script.specs.Kinds.{is_of_kind}
 use Rattle.ccr_script.specs.declared.settings.Setting.{Setting}
 use Rattle.ccr_script.specs.declared.grammar.Op.{Op}
+use Rattle.ccr_script.specs.declared.grammar.Op.TheVariants as op
 use Rattle.ccr_script.specs.Settings.{line_of, value_of, is_one_of, members_known, are_members_known}
 use Rattle.ccr_script.specs.Checking.{fits_one, members_fit, all_members_fit}
 
@@ -62,6 +63,34 @@ setting_none name d all xs i e h = e ∙ ap (λ ys. is_one_of ys name d) (drop_a
 pub settings_of_object : (settings : List Setting) (truths : Bool) (es : List (String Global × Value)) (d : Data) → Some (members_view es) ≡ as_object d
     → members_known settings truths (members_view es) ≡ are_members_known settings truths d
 settings_of_object settings truths es d e = ap (λ o. option_map_or (members_known settings truths) o false) e
+
+-- the commands of a first letter
+cut : (text name : List ℕ) → (first_byte text == first_byte name) ≡ false → bytes_eq text name ≡ false
+cut [] [] e = cc
+cut [] (y ∷ ys) e = refl
+cut (x ∷ xs) [] e = refl
+cut (x ∷ xs) (y ∷ ys) e = rw e refl
+
+abbrev pub with_letter : ℕ → List Op → List Op
+with_letter b [] = []
+with_letter b (o ∷ os) = if b == first_byte (fields_of o).name then o ∷ with_letter b os else with_letter b os
+
+letter_step : (b : Bool) (text : List ℕ) (o : Op) (os rest : List Op) → (first_byte text == first_byte (fields_of o).name) ≡ b → first_named text rest ≡ first_named text os
+    → first_named text (if b then o ∷ rest else rest) ≡ first_named text (o ∷ os)
+letter_step true text o os rest e more = ap (λ r. if bytes_eq text (fields_of o).name then Some o else r) more
+letter_step false text o os rest e more = more ∙ sym (ap (λ b. if b then Some o else first_named text os) (cut text (fields_of o).name e))
+
+letter_alone : (text : List ℕ) (os : List Op) → first_named text (with_letter (first_byte text) os) ≡ first_named text os
+letter_alone text [] = refl
+letter_alone text (o ∷ os) = letter_step (first_byte text == first_byte (fields_of o).name) text o os (with_letter (first_byte text) os) refl (letter_alone text os)
+
+abbrev pub all_ops : List Op
+all_ops = op.Cluster ∷ op.Create ∷ op.Follow ∷ op.Pause ∷ op.Resume ∷ op.Unfollow ∷ op.AutoPut ∷ op.AutoDelete ∷ op.Write ∷ op.Delete ∷ op.Search ∷ op.Status ∷ op.Settle ∷ op.Clock ∷ op.Replicate ∷ op.Ack ∷ op.Sync ∷ op.Promote ∷ op.Resync ∷ op.FailCopy ∷ op.ForcePromote ∷ op.Flush ∷ op.Merge ∷ op.AddCopy ∷ op.Deliver ∷ op.Drop ∷ op.Wake ∷ op.Lose ∷ op.LoseWrite ∷ op.Written ∷ op.Apply ∷ op.Renew ∷ op.Restart ∷ []
+
+-- it is enough to go through those of the first letter
+pub by_letter : (b : ℕ) (text : List ℕ) → first_byte text ≡ b → first_named text (with_letter b all_ops) ≡ op_named text
+unfolding op_named
+by_letter b text e = ap (λ x. first_named text (with_letter x all_ops)) (sym e) ∙ letter_alone text all_ops
 
 pub ruleset member_rules = (members_of_object, settings_of_object, split_once_first, fits_next, fits_here, fits_none)
 

@@ -1,10 +1,11 @@
 -- Whether an object has the fields of a command.
-use Rattle.std.specs.Prelude.{ℕ, ◌&&◌, ◌||◌, Bool, true, false, if◌then◌else◌, List, [], ◌∷◌, codes, is_some}
+use Rattle.std.specs.Prelude.{ℕ, ◌&&◌, ◌||◌, Bool, true, false, nat_le, if◌then◌else◌, List, [], ◌∷◌, codes, is_some}
 use Rattle.std.specs.Option.{option_map_or}
 use Rattle.std.specs.List.{list_all}
 use Rattle.std.specs.Str.{bytes_eq}
 use Rattle.serde_json.specs.Data.{Data, Members, no_members, member}
 use Rattle.serde_json.specs.Find.{get, as_object}
+use Rattle.serde_json.specs.Events.{members_len}
 use Rattle.ccr_script.specs.declared.fields.Field.{Field}
 use Rattle.ccr_script.specs.Grammar.{Fields, name_of, kind_of}
 use Rattle.ccr_script.specs.Kinds.{is_of_kind}
@@ -33,3 +34,7 @@ all_members_fit needed allowed d = option_map_or (members_fit needed allowed) (a
 -- an object with all fields that are needed, and with no member but fields, of which each has a value of its kind
 abbrev pub has_fields : Fields → Data → Bool
 has_fields fields d = are_there fields.needed d && all_members_fit fields.needed fields.allowed d
+
+-- an object with no more members
+abbrev pub has_at_most : ℕ → Data → Bool
+has_at_most most d = option_map_or (λ ms. nat_le (members_len ms) most) (as_object d) false

@@ -96,6 +96,11 @@ abbrev pub first_named : List ℕ → List Op → Option Op
 first_named text [] = None
 first_named text (o ∷ os) = if bytes_eq text (fields_of o).name then Some o else first_named text os
 
+-- 0 for an empty text
+abbrev pub first_byte : List ℕ → ℕ
+first_byte [] = 0
+first_byte (b ∷ bs) = b
+
 -- the command of a name
 unfoldable pub op_named : List ℕ → Option Op
 op_named text = first_named text (op.Cluster ∷ op.Create ∷ op.Follow ∷ op.Pause ∷ op.Resume ∷ op.Unfollow ∷ op.AutoPut ∷ op.AutoDelete ∷ op.Write ∷ op.Delete ∷ op.Search ∷ op.Status ∷ op.Settle ∷ op.Clock ∷ op.Replicate ∷ op.Ack ∷ op.Sync ∷ op.Promote ∷ op.Resync ∷ op.FailCopy ∷ op.ForcePromote ∷ op.Flush ∷ op.Merge ∷ op.AddCopy ∷ op.Deliver ∷ op.Drop ∷ op.Wake ∷ op.Lose ∷ op.LoseWrite ∷ op.Written ∷ op.Apply ∷ op.Renew ∷ op.Restart ∷ [])

@@ -1,12 +1,15 @@
 // Commands, made of the fields of a JSON object.
-ghost use Rattle.std.specs.Prelude.{◌≡◌, ◌≢◌, IfOk, IfErr};
+ghost use Rattle.std.specs.Prelude.{◌≡◌, ◌≢◌, true, Some, None, IfOk, IfErr};
 ghost use Rattle.serde_json.specs.View.{view};
-ghost use Rattle.ccr_script.specs.Commands.{IsMade, IsTextOf, IsNoCommand};
-ghost use Rattle.ccr_script.specs.Parts.{query_in};
+ghost use Rattle.ccr_script.specs.Commands.{IsMade, IsTextOf, IsNoCommand, op_in};
+ghost use Rattle.ccr_script.specs.Parts.{at, query_in};
+ghost use Rattle.ccr_script.specs.Checking.{has_fields};
+ghost use Rattle.ccr_script.specs.Grammar.{fields_of};
+ghost use Rattle.ccr_script.specs.declared.fields.Field.TheVariants as field;
 ghost use Rattle.ccr_script.specs.declared.grammar.Op.TheVariants as op;
 
 use crate::bad_lines::BadLine;
-use crate::checking::is_there;
+use crate::checking::{has_at_most, is_there};
 use crate::commands::Command;
 use crate::fields::Field;
 use crate::grammar::Op;
@@ -25,6 +28,8 @@ const MOST_HITS: u64 = 10_000;
 
 /// The command of an object that has the command's fields, unless parts of it don't belong together.
 pub fn build(alloc: Global, op: Op, value: &Value) -> Result<Command, BadLine>
+    requires named { op_in (view value.now) ≡ Some op }
+    requires fields { has_fields (fields_of op) (view value.now) ≡ true }
     ensures ok { IfOk result (λ command. IsMade op (view value.now) command) }
     ensures err { IfErr result (λ why. why ≢ BadLine.Memory → IsNoCommand op (view value.now) why) }
 {
@@ -186,10 +191,17 @@ fn read_auto_put(alloc: Global, value: &Value) -> Result<Command, BadLine>
     })
 }
 
+// Most writes have the fields that a write needs and no other, and then no other is looked for.
+#[tactic(auto, using(crate::proofs::Few::plain_rules))]
 fn read_write(alloc: Global, value: &Value) -> Result<Command, BadLine>
+    requires named { op_in (view value.now) ≡ Some op.Write }
+    requires fields { has_fields (fields_of op.Write) (view value.now) ≡ true }
     ensures ok { IfOk result (λ command. IsMade op.Write (view value.now) command) }
     ensures err { IfErr result (λ why. why ≢ BadLine.Memory → IsNoCommand op.Write (view value.now) why) }
 {
+    if has_at_most(4, value) {
+        return read_plain_write(alloc, value);
+    }
     if is_there(Field::Create, value) && is_there(Field::IfSeqNo, value) {
         return Err(BadLine::BadField);
     }
@@ -209,6 +221,30 @@ fn read_write(alloc: Global, value: &Value) -> Result<Command, BadLine>
         create: truth_in(value, Field::Create),
         expect,
         routing: id_at(alloc, value, Field::Routing)?,
+    })
+}
+
+fn read_plain_write(alloc: Global, value: &Value) -> Result<Command, BadLine>
+    requires create { at field.Create (view value.now) ≡ None }
+    requires number { at field.IfSeqNo (view value.now) ≡ None }
+    requires term { at field.IfPrimaryTerm (view value.now) ≡ None }
+    requires routing { at field.Routing (view value.now) ≡ None }
+    ensures ok { IfOk result (λ command. IsMade op.Write (view value.now) command) }
+    ensures err { IfErr result (λ why. why ≢ BadLine.Memory → IsNoCommand op.Write (view value.now) why) }
+{
+    let Some(id) = id_at(alloc, value, Field::Id)? else {
+        return Err(BadLine::BadField);
+    };
+    let Some(source) = member(value, Field::Source) else {
+        return Err(BadLine::BadField);
+    };
+    Ok(Command::Write {
+        index: index_in(alloc, value, Field::Index)?,
+        id,
+        source: body_of(alloc, source)?,
+        create: false,
+        expect: None,
+        routing: None,
     })
 }
 

@@ -3,7 +3,7 @@ ghost use Rattle.std.specs.Prelude.{◌≡◌, map, take};
 ghost use Rattle.std.specs.List.{list_any, list_all, before_first, after_first};
 ghost use Rattle.serde_json.specs.View.{view};
 ghost use Rattle.ccr_script.specs.Kinds.{is_of_kind as is_of_kind_of, is_name as is_name_of, is_name_byte as is_name_byte_of, is_first_byte as is_first_byte_of, starts_a_name as starts_a_name_of, is_index_name as is_index_name_of, is_id as is_id_of, is_slash, number_of, small as small_of};
-ghost use Rattle.ccr_script.specs.Checking.{is_there as is_there_of, are_there as are_there_of, fits as fits_of, fits_one as fits_one_of, all_members_fit, has_fields as has_fields_of};
+ghost use Rattle.ccr_script.specs.Checking.{is_there as is_there_of, are_there as are_there_of, fits as fits_of, fits_one as fits_one_of, all_members_fit, has_fields as has_fields_of, has_at_most as has_at_most_of};
 ghost use Rattle.ccr_script.specs.Grammar.{fields_of};
 
 use crate::fields::{Field, Kind};
@@ -38,6 +38,17 @@ pub fn is_there(field: Field, value: &Value) -> bool
     ensures { result ≡ is_there_of field (view value.now) }
 {
     value.get(field.name()).is_some()
+}
+
+/// Whether the value is an object with no more members than these.
+#[tactic(auto, using(crate::proofs::Few::few_rules))]
+pub fn has_at_most(most: usize, value: &Value) -> bool
+    ensures { result ≡ has_at_most_of most (view value.now) }
+{
+    match value.as_object() {
+        Some(members) => members.len() <= most,
+        None => false,
+    }
 }
 
 #[tactic(auto, using(crate::proofs::Members::member_rules))]

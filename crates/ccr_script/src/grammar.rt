@@ -1,6 +1,6 @@
 // Which commands there are, and which fields they have.
-ghost use Rattle.std.specs.Prelude.{◌≡◌};
-ghost use Rattle.ccr_script.specs.Grammar.{op_named as op_named_of, first_named as first_named_of, fields_of};
+ghost use Rattle.std.specs.Prelude.{◌≡◌, List, ℕ};
+ghost use Rattle.ccr_script.specs.Grammar.{op_named as op_named_of, first_named as first_named_of, first_byte as first_byte_of, fields_of};
 
 use crate::fields::Field;
 
@@ -64,6 +64,47 @@ fn takes(name: &'static str, needed: &'static [Field], allowed: &'static [Field]
 }
 
 impl Op {
+    /// The command's name.
+    pub fn name(self) -> &'static str
+        ensures { result.now ≡ (fields_of self).name }
+    {
+        match self {
+            Op::Cluster => "cluster",
+            Op::Create => "create",
+            Op::Follow => "follow",
+            Op::Pause => "pause",
+            Op::Resume => "resume",
+            Op::Unfollow => "unfollow",
+            Op::AutoPut => "auto_put",
+            Op::AutoDelete => "auto_delete",
+            Op::Write => "write",
+            Op::Delete => "delete",
+            Op::Search => "search",
+            Op::Status => "status",
+            Op::Settle => "settle",
+            Op::Clock => "clock",
+            Op::Replicate => "replicate",
+            Op::Ack => "ack",
+            Op::Sync => "sync",
+            Op::Promote => "promote",
+            Op::Resync => "resync",
+            Op::FailCopy => "fail_copy",
+            Op::ForcePromote => "force_promote",
+            Op::Flush => "flush",
+            Op::Merge => "merge",
+            Op::AddCopy => "add_copy",
+            Op::Deliver => "deliver",
+            Op::Drop => "drop",
+            Op::Wake => "wake",
+            Op::Lose => "lose",
+            Op::LoseWrite => "lose_write",
+            Op::Written => "written",
+            Op::Apply => "apply",
+            Op::Renew => "renew",
+            Op::Restart => "restart",
+        }
+    }
+
     /// The command's name and its fields.
     pub fn fields(self) -> Fields
         ensures name { result.name.now ≡ (fields_of self).name }
@@ -161,46 +202,80 @@ impl Op {
     }
 }
 
-/// The command of this name.
+/// The command of this name. Compares it with the names that begin with its first letter.
 pub fn op_named(text: &str) -> Option<Op>
     ensures { result ≡ op_named_of text.now }
 {
-    let ops = [
-        Op::Cluster,
-        Op::Create,
-        Op::Follow,
-        Op::Pause,
-        Op::Resume,
-        Op::Unfollow,
-        Op::AutoPut,
-        Op::AutoDelete,
-        Op::Write,
-        Op::Delete,
-        Op::Search,
-        Op::Status,
-        Op::Settle,
-        Op::Clock,
-        Op::Replicate,
-        Op::Ack,
-        Op::Sync,
-        Op::Promote,
-        Op::Resync,
-        Op::FailCopy,
-        Op::ForcePromote,
-        Op::Flush,
-        Op::Merge,
-        Op::AddCopy,
-        Op::Deliver,
-        Op::Drop,
-        Op::Wake,
-        Op::Lose,
-        Op::LoseWrite,
-        Op::Written,
-        Op::Apply,
-        Op::Renew,
-        Op::Restart,
-    ];
-    first_named(text, &ops)
+    first_named(text, ops_with_letter(first_byte(text)))
+}
+
+// The commands that can have a name with this first byte.
+fn ops_with_letter(first: u8) -> &'static [Op]
+    ensures { (text : List ℕ) → first_byte_of text ≡ first → first_named_of text result.now ≡ op_named_of text }
+{
+    match first {
+        b'a' => &[Op::AutoPut, Op::AutoDelete, Op::Ack, Op::AddCopy, Op::Apply],
+        b'c' => &[Op::Cluster, Op::Create, Op::Clock],
+        b'd' => &[Op::Delete, Op::Deliver, Op::Drop],
+        b'f' => &[Op::Follow, Op::FailCopy, Op::ForcePromote, Op::Flush],
+        b'l' => &[Op::Lose, Op::LoseWrite],
+        b'm' => &[Op::Merge],
+        b'p' => &[Op::Pause, Op::Promote],
+        b'r' => &[
+            Op::Resume,
+            Op::Replicate,
+            Op::Resync,
+            Op::Renew,
+            Op::Restart,
+        ],
+        b's' => &[Op::Search, Op::Status, Op::Settle, Op::Sync],
+        b'u' => &[Op::Unfollow],
+        b'w' => &[Op::Write, Op::Wake, Op::Written],
+        _ => &[
+            Op::Cluster,
+            Op::Create,
+            Op::Follow,
+            Op::Pause,
+            Op::Resume,
+            Op::Unfollow,
+            Op::AutoPut,
+            Op::AutoDelete,
+            Op::Write,
+            Op::Delete,
+            Op::Search,
+            Op::Status,
+            Op::Settle,
+            Op::Clock,
+            Op::Replicate,
+            Op::Ack,
+            Op::Sync,
+            Op::Promote,
+            Op::Resync,
+            Op::FailCopy,
+            Op::ForcePromote,
+            Op::Flush,
+            Op::Merge,
+            Op::AddCopy,
+            Op::Deliver,
+            Op::Drop,
+            Op::Wake,
+            Op::Lose,
+            Op::LoseWrite,
+            Op::Written,
+            Op::Apply,
+            Op::Renew,
+            Op::Restart,
+        ],
+    }
+}
+
+fn first_byte(text: &str) -> u8
+    ensures { result ≡ first_byte_of text.now }
+{
+    match text.as_bytes() {
+        [first, ..] => *first,
+        [] => 0,
+    }
 }
 
 #[tactic(auto, using(crate::proofs::Members::op_rules))]
@@ -208,7 +283,7 @@ fn first_named(text: &str, ops: &[Op]) -> Option<Op>
     ensures { result ≡ first_named_of text.now ops.now }
 {
     for op in ops {
-        if text == op.fields().name {
+        if text == op.name() {
             return Some(*op);
         }
     }
