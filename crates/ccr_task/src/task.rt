@@ -6,7 +6,7 @@ ghost use Rattle.ccr_model.specs.Followers.{replicating};
 ghost use Rattle.ccr_model.specs.Requests.{retry_time};
 ghost use Rattle.ccr_model.specs.Settling.{least_of, time_of, waits_until};
 ghost use Rattle.ccr_model.specs.TaskFacts.{IsSaturated};
-ghost use Rattle.ccr_model.specs.Tasks.{Read as Asked, Write as Outstanding, after_reply, bytes_of, changed_read, changed_write, due_writes_sent, filled_if_active, has_budget, is_active, is_held, least_from, may_read, read_lost, read_sent, sent_reads, started, stopped, ticked, waits_after, write_ended, write_lost, write_sent};
+ghost use Rattle.ccr_model.specs.Tasks.{Read as Asked, Write as Outstanding, after_reply, bytes_of, changed_read, changed_write, due_writes_sent, filled_if_active, has_budget, is_active, is_held, least_from, may_read, never_started, read_lost, read_sent, sent_reads, started, stopped, ticked, waits_after, write_ended, write_lost, write_sent};
 ghost use Rattle.ccr_task.specs.Does.{Did};
 ghost use Rattle.ccr_task.specs.Ordering.{earlier};
 ghost use Rattle.ccr_task.specs.Takes.{Takes};
@@ -136,6 +136,36 @@ impl Task {
         let _ranges = params.values();
         let begun = Self::begin(alloc, params, count, epoch, history, follower, request)?;
         Ok(begun)
+    }
+
+    /// The task of a bootstrap that ended without one, as where the leader has another history by then: it never began
+    /// an epoch, and it is stopped in this phase. Its next request has the given number.
+    pub fn never_started(
+        alloc: Global,
+        params: Params,
+        history: Uuid,
+        follower: Uuid,
+        request: u64,
+        phase: Phase,
+    ) -> Task
+        ensures { result ≡ never_started params history follower request phase }
+    {
+        Task {
+            params,
+            history,
+            follower,
+            phase,
+            epoch: 0,
+            next_request: request,
+            retry: 0,
+            next: 0,
+            known: 0,
+            reads: Vec::new(alloc),
+            buffer: Buffer::new(alloc),
+            next_write: 0,
+            writes: Vec::new(alloc),
+            broken: false,
+        }
     }
 
     /// The task that starts.
