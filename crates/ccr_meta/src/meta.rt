@@ -94,6 +94,13 @@ impl Meta {
         self.indices.contains_key(index)
     }
 
+    /// The indices, in ascending order of their names.
+    pub fn indices(&self) -> &BTreeMap<IndexName, IndexMeta>
+        ensures { result.now.entries ≡ self.now.indices }
+    {
+        &self.indices
+    }
+
     // The index of this name.
     fn get(&self, index: &IndexName) -> Option<&IndexMeta>
         ensures { option_copied result ≡ index_at self.now index.now }
