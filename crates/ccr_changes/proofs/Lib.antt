@@ -1,3 +1,6 @@
 pub mod Runs
-pub mod Places
-pub mod Leasts
+pub mod Ages
+pub mod Keys
+pub mod Firsts
+pub mod Takes
+pub mod Indexing

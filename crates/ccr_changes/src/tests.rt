@@ -116,3 +116,54 @@ fn polls_are_found_by_their_place_among_a_followers(rt: HostRuntime) -> Result<(
     assert_eq!(rt; left.request, 9);
     Ok(())
 }
+
+// Twenty-four polls: the n-th is of follower n % 3 and at copy n % 4, and asks for operations from 100 - n on.
+fn many(alloc: Global) -> Result<Polls, AllocError> {
+    let mut polls = Polls::new(alloc);
+    for n in 0..24u8 {
+        let request = u64::from(n);
+        polls.park(poll(n % 3, request, u32::from(n % 4), 100 - request))?;
+    }
+    Ok(polls)
+}
+
+fn is_at(polls: &Polls, follower: u8, at: usize, request: u64) -> bool {
+    match polls.get(&Uuid::from_bytes([follower; 16]), at) {
+        Some(poll) => poll.request == request,
+        None => false,
+    }
+}
+
+fn is_least(polls: &Polls, copy: u32, at: usize, from: u64) -> bool {
+    match polls.least_from(copy) {
+        Some(least) => least.at == at && least.from == from,
+        None => false,
+    }
+}
+
+#[test]
+fn many_polls_of_several_followers_and_copies_are_found(rt: HostRuntime) -> Result<(), Fail> {
+    let mut polls = many(rt.alloc())?;
+    let zero = Uuid::from_bytes([0; 16]);
+    let one = Uuid::from_bytes([1; 16]);
+    // Of copy 1 are 1, 5, 9, 13, 17 and 21, and of follower 0 are 0, 3, .., 21.
+    assert!(rt; is_least(&polls, 1, 7, 79));
+    assert!(rt; is_at(&polls, 2, 3, 11));
+    assert!(rt; polls.has(&zero, 21));
+    assert!(rt; !polls.has(&one, 21));
+    // Of follower 1 are 1, 4, 7, 10, ..
+    let taken = polls.take(&one, 2).ok_or("the follower has eight")?;
+    assert_eq!(rt; taken.request, 7);
+    assert!(rt; is_at(&polls, 1, 2, 10));
+    // Now follower 0 has 0, 3, 6, 12, 15, 18, follower 1 has 4, 10, 16, 19, 22, and follower 2 has 2, 8, 11, 14, 20, 23.
+    polls.drop_copy(1);
+    assert_eq!(rt; polls.len(), 17);
+    assert!(rt; is_at(&polls, 0, 3, 12));
+    assert!(rt; is_at(&polls, 1, 2, 16));
+    assert!(rt; is_at(&polls, 2, 1, 8));
+    assert!(rt; !polls.has(&zero, 21));
+    assert!(rt; polls.least_from(1).is_none());
+    // Of copy 2 are 2, 6, 10, 14, 18 and 22.
+    assert!(rt; is_least(&polls, 2, 4, 78));
+    Ok(())
+}
