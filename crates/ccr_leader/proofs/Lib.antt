@@ -7,4 +7,5 @@ pub mod Received
 pub mod Rows
 pub mod Settled
 pub mod Stale
+pub mod Waited
 pub mod Written

@@ -44,7 +44,7 @@ impl Leader {
 
     /// A replica learns the global count, and takes the primary's leases where these supersede its own. Answers the
     /// requests for leases that each copy then has. Refused are `NoCopy`, `IsPrimary` and `NotReady`. It looks at each
-    /// request that waits.
+    /// lease that a request waits for, and where each copy has one of them at each request that waits.
     pub fn sync_copy(&mut self, copy: u64) -> Result<Messages, LeaderFault>
         ensures ok { IfOk result (λ told. leader_sync self.old copy ≡ record { reply = replies.Done; next = self.new; sent = told }) }
         ensures err { IfErr result (λ fault. IsRefusal fault → leader_sync self.old copy ≡ refused self.new (refusal_of fault)) }
@@ -121,7 +121,8 @@ impl Leader {
 
     /// A replica leaves, and is kept as it was; of nine such the one of least number is forgotten. The reads that wait
     /// there go. Answers the requests for leases that each other copy has. Refused are `NoCopy`, `LastCopy` and
-    /// `IsPrimary`. It looks at each request and each read that waits.
+    /// `IsPrimary`. It looks at each read that waits, and at requests as
+    /// `sync_copy` does.
     pub fn fail_copy(&mut self, copy: u64) -> Result<Messages, LeaderFault>
         ensures ok { IfOk result (λ told. leader_fail_copy self.old copy ≡ record { reply = replies.Done; next = self.new; sent = told }) }
         ensures err { IfErr result (λ fault. IsRefusal fault → leader_fail_copy self.old copy ≡ refused self.new (refusal_of fault)) }

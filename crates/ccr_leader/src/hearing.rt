@@ -33,7 +33,8 @@ impl Leader {
     /// A message comes to a copy: a read of its history, or a request about a lease or a session, which go to the
     /// primary. Answers what was done, and the messages that are sent. A read that has nothing to bring yet waits,
     /// and so does a request for a lease until each copy has the lease. Refused is `NoCopy`, at a read alone. A
-    /// read costs what it brings; a request for a lease that was not there looks at each request that waits.
+    /// read costs what it brings; a request for a lease looks at each lease that is waited for, and where each copy
+    /// then has one that was not there before at each request that waits.
     pub fn receive(
         &mut self,
         copy: u64,
@@ -256,7 +257,7 @@ impl Leader {
                 })
             }
             Some(copy) => {
-                self.kept.keep(asked)?;
+                self.kept.keep(self.alloc, asked)?;
                 Ok(Heard::Waiting { copy })
             }
         }
@@ -401,7 +402,8 @@ impl Leader {
                 let sent = one(self.alloc, follower, request, content)?;
                 Ok((Heard::Gone, sent))
             }
-            Err(_) => Err(LeaderFault::Memory),
+            Err(SessionFault::NoFile) | Err(SessionFault::Range) => unreachable!(),
+            Err(SessionFault::Memory) => Err(LeaderFault::Memory),
         }
     }
 }

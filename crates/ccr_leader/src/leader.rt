@@ -27,8 +27,7 @@ use uuid::Uuid;
 /// The leader's side of a shard: its copies, those that left and are kept, its clock, and what followers wait for
 /// there. A call that is refused changes nothing.
 ///
-/// After want of memory a leader is broken: each later call that can answer want of memory answers it, and nothing
-/// else is said of its state.
+/// After want of memory nothing is said of a leader; no contract tells what its later calls answer.
 #[derive(Drop)]
 pub struct Leader {
     pub(crate) alloc: Global,
