@@ -1,0 +1,10 @@
+mod SameLists
+mod Counts
+mod RankOrder
+mod Lives
+mod Sorts
+mod Walks
+mod Blank
+mod Listing
+mod Merges
+mod Pages

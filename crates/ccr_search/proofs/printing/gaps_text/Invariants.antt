@@ -1,0 +1,6 @@
+use Rattle.std.proofs.Common.{◌≡◌, string_bytes, take}
+use Rattle.ccr_search.specs.Printed.{truth_text, listed}
+use Rattle.ccr_search.proofs.printing.gaps_text.Given as goal
+
+abbrev pub invariant-loop-index : goal.invariant-loop-index
+invariant-loop-index l = string_bytes l.text ≡ listed truth_text (take l.index l.gaps)

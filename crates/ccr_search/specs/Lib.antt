@@ -1,0 +1,4 @@
+pub mod Ranks
+pub mod Finds
+pub mod Joined
+pub mod Printed
