@@ -1,0 +1,4 @@
+pub mod InFlight
+pub mod Sides
+pub mod Ends
+pub mod Wholes
