@@ -1,0 +1,5 @@
+pub mod Serving
+pub mod Polled
+pub mod Following
+pub mod Grounding
+pub mod Idleness

@@ -1,0 +1,5 @@
+pub mod Next
+pub mod Served
+pub mod Still
+pub mod Idle
+pub mod Grounds
