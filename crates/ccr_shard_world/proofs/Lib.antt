@@ -1,0 +1,4 @@
+pub mod Recording
+pub mod OnlyMerges
+pub mod Asking
+pub mod Settling
