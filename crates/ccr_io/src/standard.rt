@@ -60,7 +60,8 @@ impl<R: Read> Source for StdSource<R> {
 /// A writer, such as `io::writer(rt)` of standard output, as a sink. Each write that ends in an error
 /// is a fault, and so is one that takes no byte. A clause sees how many there were.
 ///
-/// It adds no buffer of its own, and never flushes: bytes in a writer that has a buffer count as taken.
+/// It adds no buffer of its own, and a write never flushes: bytes in a writer that has a buffer count as taken. Call
+/// [`StdSink::flush`] before the program ends.
 #[derive(Drop)]
 pub struct StdSink<W> {
     writer: W,
@@ -79,6 +80,23 @@ impl<W> StdSink<W> {
         ensures { result ≡ record { handle = writer; faults = 0 } }
     {
         StdSink { writer, faults: 0 }
+    }
+}
+
+impl<W: Write> StdSink<W> {
+    /// Writes out what the writer has in its buffer. A failure is a fault.
+    pub fn flush(&mut self) -> Result<(), Failed>
+        requires countable { self.old.faults < 2 ^ 64 - 1 }
+        ensures quiet { OnOk result (self.new.faults ≡ self.old.faults) }
+        ensures rose { OnErr result (self.new.faults ≡ self.old.faults + 1) }
+    {
+        match self.writer.flush() {
+            Ok(()) => Ok(()),
+            Err(_) => {
+                self.faults += 1;
+                Err(Failed)
+            }
+        }
     }
 }
 

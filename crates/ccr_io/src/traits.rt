@@ -1,5 +1,5 @@
 //! What a source and a sink of bytes promise.
-ghost use Rattle.std.specs.Prelude.{◌≡◌, ◌-◌, ◌^◌, ◌<◌, ◌≤◌, ℕ, List, Option, length, take, is_some, IfOk, OnOk, OnErr};
+ghost use Rattle.std.specs.Prelude.{◌≡◌, ◌+◌, ◌-◌, ◌^◌, ◌<◌, ◌≤◌, ℕ, List, Option, length, take, is_some, IfOk, OnOk, OnErr};
 ghost use Rattle.std.specs.Io.{ReadsAtMost};
 ghost use Rattle.std.specs.Io.KnownBytes.{Appends, Consumes, IsAtEnd};
 ghost use Rattle.ccr_io.specs.Prefix.{AppendsPrefix};
@@ -11,7 +11,7 @@ pub trait Source {
     /// The bytes that reads will give from here on, in order; `None` where the source does not tell.
     ghost left: { Self → Option (List ℕ) };
 
-    /// How many reads have failed. It never falls.
+    /// How many reads have failed: each that fails raises it by one, and nothing else changes it.
     ghost faults: { Self → ℕ };
 
     /// Reads at most as many bytes as `into` has, to its front, and says how many. 0 is the end. Past
@@ -25,7 +25,7 @@ pub trait Source {
         ensures kept { OnErr result (left self.new ≡ left self.old) }
         ensures told { is_some (left self.new) ≡ is_some (left self.old) }
         ensures quiet { OnOk result (faults self.new ≡ faults self.old) }
-        ensures rose { OnErr result (faults self.old < faults self.new) };
+        ensures rose { OnErr result (faults self.new ≡ faults self.old + 1) };
 }
 
 /// Where bytes go, piece by piece.
@@ -33,7 +33,7 @@ pub trait Sink {
     /// The bytes that writes have put there, in order; `None` where the sink does not tell.
     ghost taken: { Self → Option (List ℕ) };
 
-    /// How many writes have failed. It never falls.
+    /// How many writes have failed: each that fails raises it by one, and nothing else changes it.
     ghost faults: { Self → ℕ };
 
     /// Takes at least one byte from the front of `from`, and says how many.
@@ -46,7 +46,7 @@ pub trait Sink {
         ensures kept { OnErr result (taken self.new ≡ taken self.old) }
         ensures told { is_some (taken self.new) ≡ is_some (taken self.old) }
         ensures quiet { OnOk result (faults self.new ≡ faults self.old) }
-        ensures rose { OnErr result (faults self.old < faults self.new) };
+        ensures rose { OnErr result (faults self.new ≡ faults self.old + 1) };
 }
 
 /// Writes all the bytes, in as many writes as that takes; none where there are none. A failure leaves
@@ -57,7 +57,7 @@ pub fn write_all<K: Sink>(to: &mut K, bytes: &[u8]) -> Result<(), Failed>
     ensures part { OnErr result (AppendsPrefix (K.taken to.old) (K.taken to.new) bytes.now) }
     ensures told { is_some (K.taken to.new) ≡ is_some (K.taken to.old) }
     ensures quiet { OnOk result (K.faults to.new ≡ K.faults to.old) }
-    ensures rose { OnErr result (K.faults to.old < K.faults to.new) }
+    ensures rose { OnErr result (K.faults to.new ≡ K.faults to.old + 1) }
 {
     let mut done = 0;
     while done < bytes.len() {

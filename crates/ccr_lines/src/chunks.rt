@@ -91,7 +91,7 @@ impl Chunk {
         ensures same { OnErr result (self.new ≡ self.old) }
         ensures told { is_some (S.left from.new) ≡ is_some (S.left from.old) }
         ensures quiet { OnOk result (S.faults from.new ≡ S.faults from.old) }
-        ensures rose { OnErr result (S.faults from.old < S.faults from.new) }
+        ensures rose { OnErr result (S.faults from.new ≡ S.faults from.old + 1) }
     {
         self.start = 0;
         self.end = 0;

@@ -122,7 +122,7 @@ impl Lines {
         ensures spent { IfOk result (λ found. IfNone found (IsAtEnd (S.left from.new))) }
         ensures too_long { result ≡ Err LineFault.TooLong → FirstLineIsOver (rest_of self.old.pending (S.left from.old)) MOST_LINE_BYTES × (self.old.number + 1 < MOST_LINES) }
         ensures too_many { result ≡ Err LineFault.TooMany → HasLine (rest_of self.old.pending (S.left from.old)) × (self.old.number + 1 ≡ MOST_LINES) }
-        ensures read { result ≡ Err LineFault.Read → S.faults from.old < S.faults from.new }
+        ensures read { result ≡ Err LineFault.Read → S.faults from.new ≡ S.faults from.old + 1 }
         ensures broken_off { result ≡ Err LineFault.Read → (self.old.ended ≡ false) × BreaksOff (rest_of self.old.pending (S.left from.old)) (S.left from.new) }
         ensures quiet { result ≢ Err LineFault.Read → S.faults from.new ≡ S.faults from.old }
         ensures told { is_some (S.left from.new) ≡ is_some (S.left from.old) }
@@ -154,7 +154,7 @@ fn has_more<S: Source>(chunk: &mut Chunk, from: &mut S) -> Result<bool, LineFaul
     ensures none { OnErr result ((chunk.new.bytes ≡ []) × (chunk.old.ended ≡ false)) }
     ensures told { is_some (S.left from.new) ≡ is_some (S.left from.old) }
     ensures quiet { OnOk result (S.faults from.new ≡ S.faults from.old) }
-    ensures err { IfErr result (λ why. (why ≡ LineFault.Read) × (S.faults from.old < S.faults from.new)) }
+    ensures err { IfErr result (λ why. (why ≡ LineFault.Read) × (S.faults from.new ≡ S.faults from.old + 1)) }
 {
     if !chunk.is_empty() {
         return Ok(true);
@@ -183,7 +183,7 @@ fn read_line<S: Source>(
     ensures bounds { IfOk result (λ bytes. length bytes.items ≤ MOST_LINE_BYTES) }
     ensures too_long { result ≡ Err LineFault.TooLong → FirstLineIsOver (rest_of chunk.old.bytes (S.left from.old)) MOST_LINE_BYTES }
     ensures some { result ≢ Err LineFault.TooMany }
-    ensures read { result ≡ Err LineFault.Read → S.faults from.old < S.faults from.new }
+    ensures read { result ≡ Err LineFault.Read → S.faults from.new ≡ S.faults from.old + 1 }
     ensures broken_off { result ≡ Err LineFault.Read → BreaksOff (rest_of chunk.old.bytes (S.left from.old)) (S.left from.new) }
     ensures quiet { result ≢ Err LineFault.Read → S.faults from.new ≡ S.faults from.old }
     ensures told { is_some (S.left from.new) ≡ is_some (S.left from.old) }
