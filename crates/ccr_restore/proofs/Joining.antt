@@ -31,13 +31,6 @@ range-turn g n i bytes more total lt grown before =
     one_more : n - i ≡ suc (n - (i + 1))
     one_more = omega arith
 
-pub range-end : (g : ℕ → List ℕ) (n i : ℕ) (bytes total : List ℕ) → n ≤ i → bytes ++ flat_map {X = ℕ} {A = ℕ} g (range_with_len i (n - i)) ≡ total → bytes ≡ total
-range-end g n i bytes total le before =
-    sym (append-nil bytes) ∙ (sym (ap (λ (k : ℕ). bytes ++ flat_map {X = ℕ} {A = ℕ} g (range_with_len i k)) none) ∙ before)
-  where
-    none : n - i ≡ 0
-    none = omega arith
-
 pub files-turn : (g : ℕ → List Operation) (n i : ℕ) (files more total : List (List Operation)) → i < n → more ≡ files ++ g i ∷ [] → files ++ map {A = ℕ} {B = List Operation} g (range_with_len i (n - i)) ≡ total
     → more ++ map {A = ℕ} {B = List Operation} g (range_with_len (i + 1) (n - (i + 1))) ≡ total
 files-turn g n i files more total lt grown before =
@@ -47,13 +40,6 @@ files-turn g n i files more total lt grown before =
   where
     one_more : n - i ≡ suc (n - (i + 1))
     one_more = omega arith
-
-pub files-end : (g : ℕ → List Operation) (n i : ℕ) (files total : List (List Operation)) → n ≤ i → files ++ map {A = ℕ} {B = List Operation} g (range_with_len i (n - i)) ≡ total → files ≡ total
-files-end g n i files total le before =
-    sym (append-nil files) ∙ (sym (ap (λ (k : ℕ). files ++ map {A = ℕ} {B = List Operation} g (range_with_len i k)) none) ∙ before)
-  where
-    none : n - i ≡ 0
-    none = omega arith
 
 -- what holds along a range holds at each of its numbers
 pub in_range : (P : ℕ → Type 0) (from n k : ℕ) → AllByRecursion P (range_with_len from n) → k < n → P (from + k)

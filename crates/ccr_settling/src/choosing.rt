@@ -21,8 +21,9 @@ use std::alloc::{AllocError, Global};
 /// of the number `hint` on, counted again from 0 behind the last one; so callers with other hints begin at other
 /// followers. A clock is set only where nothing else may be done.
 ///
-/// The cost is one look at each copy and at each poll, and at one follower after another up to the first of which
-/// something may be done, with the requests and writes that it has outstanding. An apply has a copy of its batch.
+/// The cost is one look at each copy, with a look-up among the polls there, and at one follower after another up to the
+/// first of which something may be done, with the requests and writes that it has outstanding. An apply has a copy of
+/// its batch.
 pub fn choose(alloc: Global, shard: &Shard, hint: u64) -> Result<Option<Event>, AllocError>
     requires { IsReached shard.now }
     ensures { IfOk result (λ chosen. MatchOption chosen (is_settled shard.now ≡ true) (λ event. IsNext shard.now event)) }

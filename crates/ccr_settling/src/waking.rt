@@ -19,7 +19,7 @@ use ccr_shard::Shard;
 use uuid::Uuid;
 
 /// A poll that has something to bring: at the first copy, the primary first, whose global count is above the least
-/// number that a poll there asks for. The cost goes with the copies, and with the polls at each.
+/// number that a poll there asks for. The cost goes with the copies, and with the logarithm of the polls at each.
 pub fn next_to_wake(shard: &Shard) -> Option<Event>
     requires { ArePollsOfFollowers shard.now }
     ensures { MatchOption result (NoneWakes shard.now) (λ event. may_act shard.now event ≡ true) }

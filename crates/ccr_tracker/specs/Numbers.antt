@@ -25,11 +25,6 @@ AscendsFrom low (x ∷ xs) = (low ≤ x) × AscendsFrom (x + 1) xs
 abbrev pub IsCanonical : Numbers → Type 0
 IsCanonical s = AscendsFrom (s.count + 1) s.above
 
--- each number of the list is below the limit
-abbrev pub AllBelow : ℕ → List ℕ → Type 0
-AllBelow limit [] = Unit {0}
-AllBelow limit (x ∷ xs) = (x < limit) × AllBelow limit xs
-
 -- `count` is the least number that the test does not hold of
 pub record IsLeastAbsent (test : ℕ → Bool) (count : ℕ) : Type 0 where
   pub absent : test count ≡ false
@@ -84,11 +79,6 @@ IsFirstLacking from held (Some n) = (from n ≡ true) × (held n ≡ false) × (
 -- the test holds of each number from `from` on and below `to`
 abbrev pub HoldsBetween : (ℕ → Bool) → ℕ → ℕ → Type 0
 HoldsBetween test from to = (k : ℕ) → from ≤ k → k < to → test k ≡ true
-
--- what a tracker keeps of its count and the numbers above
-pub record IsTracked (count : ℕ) (above : List ℕ) : Type 0 where
-  pub canonical : AscendsFrom (count + 1) above
-  pub small : AllBelow (2 ^ 64 - 1) above
 
 -- two sets in the one form that have the same numbers are equal
 abbrev pub OneForm : Type 0
