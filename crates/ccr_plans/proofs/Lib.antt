@@ -1,0 +1,9 @@
+pub mod Finding
+pub mod Marked
+pub mod Lengths
+pub mod Tables
+pub mod Bounds
+pub mod Allowed
+pub mod Creating
+pub mod Faults
+pub mod Within

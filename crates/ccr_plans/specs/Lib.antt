@@ -1,0 +1,10 @@
+pub mod Planned
+pub mod Forms
+pub mod Grouped
+pub mod Made
+pub mod Patterns
+pub mod Clocks
+pub mod Refused
+pub mod Plans
+pub mod NamesAfter
+pub mod Scenes
