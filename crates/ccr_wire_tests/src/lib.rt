@@ -1,5 +1,0 @@
-//! Tests of `ccr_wire` over its public calls: messages and their frames.
-#![tactic(auto)]
-
-#[cfg(test)]
-mod tests;
