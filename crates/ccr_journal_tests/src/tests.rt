@@ -1,6 +1,6 @@
 use ccr_journal::{
-    Batch, Boxed, CopyCount, CopyStatus, CopyStatuses, Entry, Event, ExpiredLeases, FollowerStatus,
-    Journal, KeptLeases, ParamValues, Params, Phase, Reply, WriteRequest,
+    Batch, Boxed, CopyStatus, CopyStatuses, Entry, Event, ExpiredLeases, FollowerStatus, Journal,
+    KeptLeases, ParamValues, Params, Phase, Reply, WriteRequest,
 };
 use ccr_lease::{Expired, Lease};
 use ccr_op::{Body, DocId, LeaseId, Name, Op};
@@ -10,87 +10,59 @@ use std::alloc::{AllocError, Global};
 use std::sync::ArcStr;
 use std::test::Fail;
 
-/// The parameters of a follower that is made without any, in the order of the fields.
-const DEFAULTS: [u64; 11] = [
-    5_120,
-    33_554_432,
-    12,
-    5_120,
-    9_223_372_036_854_775_807,
-    9,
-    2_147_483_647,
-    536_870_912,
-    500,
-    60_000,
-    1_048_576,
-];
-
 /// The greatest value of each parameter, in the order of the fields.
-const GREATEST: [u64; 11] = [
-    2_147_483_647,
-    9_223_372_036_854_775_807,
-    2_147_483_647,
-    2_147_483_647,
-    9_223_372_036_854_775_807,
-    2_147_483_647,
-    2_147_483_647,
-    9_223_372_036_854_775_807,
-    9_007_199_254_740_991,
-    9_007_199_254_740_991,
-    16_777_216,
-];
+const GREATEST: &str = "\
+2147483647
+9223372036854775807
+2147483647
+2147483647
+9223372036854775807
+2147483647
+2147483647
+9223372036854775807
+9007199254740991
+9007199254740991
+16777216";
 
-fn values_of(n: [u64; 11]) -> ParamValues {
-    ParamValues {
-        max_read_request_operation_count: n[0],
-        max_read_request_size: n[1],
-        max_outstanding_read_requests: n[2],
-        max_write_request_operation_count: n[3],
-        max_write_request_size: n[4],
-        max_outstanding_write_requests: n[5],
-        max_write_buffer_count: n[6],
-        max_write_buffer_size: n[7],
-        max_retry_delay: n[8],
-        read_poll_timeout: n[9],
-        chunk_size: n[10],
-    }
+/// The parameter that another one stands in for, where it has that place.
+fn value_at(place: usize, other: usize, n: u64) -> u64 {
+    if place == other { n } else { 1 }
 }
 
-/// Whether the parameters with another one at a place are in their ranges.
+/// Whether the parameters with this number at a place, and 1 at the others, are in their ranges.
 fn is_in_range(place: usize, n: u64) -> bool {
-    let mut values = DEFAULTS;
-    if let Some(value) = values.get_mut(place) {
-        *value = n;
-    }
-    Params::new(values_of(values)).is_some()
+    Params::new(ParamValues {
+        max_read_request_operation_count: value_at(place, 0, n),
+        max_read_request_size: value_at(place, 1, n),
+        max_outstanding_read_requests: value_at(place, 2, n),
+        max_write_request_operation_count: value_at(place, 3, n),
+        max_write_request_size: value_at(place, 4, n),
+        max_outstanding_write_requests: value_at(place, 5, n),
+        max_write_buffer_count: value_at(place, 6, n),
+        max_write_buffer_size: value_at(place, 7, n),
+        max_retry_delay: value_at(place, 8, n),
+        read_poll_timeout: value_at(place, 9, n),
+        chunk_size: value_at(place, 10, n),
+    })
+    .is_some()
+}
+
+/// Whether the parameter at a place goes from 1 to the number of the line.
+fn goes_to(place: usize, line: &str) -> Result<bool, Fail> {
+    let greatest = line.parse::<u64>()?;
+    Ok(
+        !is_in_range(place, 0)
+            && is_in_range(place, greatest)
+            && !is_in_range(place, greatest.saturating_add(1)),
+    )
 }
 
 #[test]
-fn each_parameter_has_its_range(rt: HostRuntime) {
-    for (place, greatest) in GREATEST.into_iter().enumerate() {
-        assert!(rt; !is_in_range(place, 0), "0 at {place}");
-        assert!(rt; is_in_range(place, 1), "1 at {place}");
-        assert!(rt; is_in_range(place, greatest), "{greatest} at {place}");
-        let above = greatest.saturating_add(1);
-        assert!(rt; !is_in_range(place, above), "{above} at {place}");
+fn each_parameter_has_its_range(rt: HostRuntime) -> Result<(), Fail> {
+    for (place, line) in GREATEST.lines().enumerate() {
+        assert!(rt; goes_to(place, line)?, "{line} at {place}");
     }
-}
-
-#[test]
-fn parameters_keep_their_values(rt: HostRuntime) {
-    let values = values_of(DEFAULTS);
-    let params = Params::new(values).expect(&rt, "each is in its range");
-    assert!(rt; *params.copy().values() == values);
-}
-
-#[test]
-fn a_shard_has_one_to_eight_copies(rt: HostRuntime) {
-    for (copies, is_in_range) in [(0, false), (1, true), (8, true), (9, false)] {
-        let count = CopyCount::new(copies);
-        assert_eq!(rt; count.is_some(), is_in_range, "{copies}");
-    }
-    let count = CopyCount::new(5).expect(&rt, "five copies");
-    assert_eq!(rt; count.copy().get(), 5);
+    Ok(())
 }
 
 /// How many sessions the reply of an entry says were closed.
@@ -101,28 +73,20 @@ fn sessions_of(entry: Option<&Entry>) -> Option<u64> {
     }
 }
 
+/// What the one entry of a journal answers.
+fn kept_sessions(alloc: Global) -> Result<Option<u64>, AllocError> {
+    let mut journal = Journal::new(alloc);
+    journal.reserve()?;
+    journal.push(Entry {
+        event: Event::CloseSessions,
+        reply: Reply::Closed { sessions: 4 },
+    })?;
+    Ok(sessions_of(journal.at(0)))
+}
+
 #[test]
-fn a_journal_keeps_its_entries_in_their_order(rt: HostRuntime) -> Result<(), Fail> {
-    let mut journal = Journal::new(rt.alloc());
-    assert!(rt; journal.is_empty());
-    for sessions in [4, 0, 9] {
-        journal.reserve()?;
-        journal.push(Entry {
-            event: Event::CloseSessions,
-            reply: Reply::Closed { sessions },
-        })?;
-    }
-    assert_eq!(rt; journal.len(), 3);
-    assert!(rt; !journal.is_empty());
-    for (place, sessions) in [
-        (0, Some(4)),
-        (1, Some(0)),
-        (2, Some(9)),
-        (3, None),
-        (u64::MAX, None),
-    ] {
-        assert_eq!(rt; sessions_of(journal.at(place)), sessions, "at {place}");
-    }
+fn a_journal_keeps_its_entries(rt: HostRuntime) -> Result<(), Fail> {
+    assert_eq!(rt; kept_sessions(rt.alloc())?, Some(4));
     Ok(())
 }
 
@@ -130,20 +94,21 @@ fn text(alloc: Global, text: &str) -> Result<ArcStr, AllocError> {
     ArcStr::from_str(alloc, text)
 }
 
-#[test]
-fn a_request_is_copied(rt: HostRuntime) -> Result<(), Fail> {
-    let alloc = rt.alloc();
-    let id = DocId::new(text(alloc, "a")?).ok_or("an id")?;
+/// The number and term that the copy of a request is bound to.
+fn copied_expectation(alloc: Global) -> Result<Option<(u64, u64)>, Fail> {
     let request = WriteRequest {
-        id,
+        id: DocId::new(text(alloc, "a")?).ok_or("an id")?,
         routing: None,
         body: None,
         create: false,
         expect: Some((0, 1)),
     };
-    let copied = request.copy(alloc)?;
-    assert_eq!(rt; copied.id.as_str(), "a");
-    assert_eq!(rt; copied.expect, Some((0, 1)));
+    Ok(request.copy(alloc)?.expect)
+}
+
+#[test]
+fn a_request_is_copied(rt: HostRuntime) -> Result<(), Fail> {
+    assert_eq!(rt; copied_expectation(rt.alloc())?, Some((0, 1)));
     Ok(())
 }
 
@@ -170,9 +135,13 @@ fn merged(alloc: Global) -> Result<Reply, AllocError> {
     })
 }
 
-fn expired(alloc: Global, id: LeaseId) -> Result<Reply, AllocError> {
+fn lease_id(alloc: Global) -> Result<LeaseId, Fail> {
+    Ok(LeaseId::new(text(alloc, "x")?).ok_or("an id")?)
+}
+
+fn expired(alloc: Global) -> Result<Reply, Fail> {
     let lease = Expired {
-        id,
+        id: lease_id(alloc)?,
         stamp: 110,
         now: 161,
     };
@@ -181,24 +150,27 @@ fn expired(alloc: Global, id: LeaseId) -> Result<Reply, AllocError> {
 }
 
 fn took(alloc: Global) -> Result<Reply, AllocError> {
-    let batch = Batch::new(Vec::from_array(alloc, [Op::no_op(0, 1)])?);
-    Ok(Reply::Took { batch })
+    let mut ops = Vec::new(alloc);
+    ops.push(Op::no_op(0, 1))?;
+    Ok(Reply::Took {
+        batch: Batch::new(ops),
+    })
 }
 
-fn found(alloc: Global, id: DocId, body: Body) -> Result<Reply, AllocError> {
+fn found(alloc: Global) -> Result<Reply, Fail> {
     let hit = Hit {
-        id,
+        id: DocId::new(text(alloc, "a")?).ok_or("an id")?,
         routing: None,
-        body,
+        body: Body::new(text(alloc, "{}")?),
     };
     let hits = Vec::from_array(alloc, [hit])?;
     let answer = Boxed::new(alloc, ShardAnswer::new(1, false, hits))?;
     Ok(Reply::Found { answer })
 }
 
-fn leader_status(alloc: Global, id: LeaseId) -> Result<Reply, AllocError> {
+fn leader_status(alloc: Global) -> Result<Reply, Fail> {
     let lease = Lease {
-        id,
+        id: lease_id(alloc)?,
         number: 5,
         stamp: 100,
     };
@@ -241,23 +213,23 @@ fn has_its_parts(reply: &Reply) -> bool {
     }
 }
 
-fn is_copied(alloc: Global, reply: Reply) -> Result<bool, AllocError> {
-    let copied = reply.copy(alloc)?;
-    Ok(has_its_parts(&copied))
+fn is_copied(alloc: Global, reply: &Reply) -> Result<bool, AllocError> {
+    Ok(has_its_parts(&reply.copy(alloc)?))
 }
 
 #[test]
 fn replies_are_copied(rt: HostRuntime) -> Result<(), Fail> {
-    let alloc = rt.alloc();
-    assert!(rt; is_copied(alloc, merged(alloc)?)?);
-    assert!(rt; is_copied(alloc, took(alloc)?)?);
-    assert!(rt; is_copied(alloc, follower_status(alloc)?)?);
-    let lease = LeaseId::new(text(alloc, "x")?).ok_or("an id")?;
-    assert!(rt; is_copied(alloc, expired(alloc, lease.copy(alloc)?)?)?);
-    assert!(rt; is_copied(alloc, leader_status(alloc, lease)?)?);
-    let id = DocId::new(text(alloc, "a")?).ok_or("an id")?;
-    let body = Body::new(text(alloc, "{}")?);
-    assert!(rt; is_copied(alloc, found(alloc, id, body)?)?);
+    assert!(rt; is_copied(rt.alloc(), &merged(rt.alloc())?)?);
+    assert!(rt; is_copied(rt.alloc(), &took(rt.alloc())?)?);
+    assert!(rt; is_copied(rt.alloc(), &expired(rt.alloc())?)?);
+    assert!(rt; is_copied(rt.alloc(), &found(rt.alloc())?)?);
+    Ok(())
+}
+
+#[test]
+fn statuses_are_copied(rt: HostRuntime) -> Result<(), Fail> {
+    assert!(rt; is_copied(rt.alloc(), &leader_status(rt.alloc())?)?);
+    assert!(rt; is_copied(rt.alloc(), &follower_status(rt.alloc())?)?);
     Ok(())
 }
 
