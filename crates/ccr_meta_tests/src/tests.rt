@@ -1,11 +1,159 @@
-//! Tables of commands, each with its answer behind a bar.
+//! Tables of commands, each with its answer behind a bar. A table begins with no cluster, and a blank line ends it.
 use ccr_auto::Decision;
-use ccr_meta::{Decided, IndexMeta, Meta, MetaFault, Phases, Settings, route, uuid_of};
+use ccr_meta::{
+    AutoRefused, Decided, IndexMeta, Meta, MetaFault, Phases, Settings, route, uuid_of,
+};
 use ccr_op::{DocId, IndexName, Name};
 use std::alloc::{AllocError, Global};
-use std::str::SplitWhitespace;
 use std::sync::ArcStr;
 use std::test::Fail;
+
+const TABLES: &str = r#"
+cluster a | Ok(())
+cluster b | Ok(())
+create a/l replicas=0 | created
+create a/off replicas=0 soft=off | created
+follow b/f a/l | Ok(())
+create c/x replicas=9 | NoCluster
+create a/l replicas=9 | IndexExists
+create b/f | IndexExists
+follow c/f a/none | Err(NoCluster)
+follow b/g c/l | Err(NoCluster)
+follow b/f a/none | Err(NoIndex)
+follow b/f b/f | Err(IndexExists)
+follow b/f a/off | Err(IndexExists)
+follow b/g b/f x=1 | Err(IsFollower)
+follow a/g a/l | Err(BadSetting)
+follow a/g a/off | Err(SoftDeletesOff)
+follow b/g a/off x=1 | Err(SoftDeletesOff)
+cluster a | Err(ClusterExists)
+find c/x | NoCluster
+find a/x | NoIndex
+cluster - | Err(BadSetting)
+cluster _a | Err(BadSetting)
+cluster A | Err(BadSetting)
+
+cluster a | Ok(())
+cluster b | Ok(())
+create a/l replicas=8 | BadSetting
+create a/l shards=0 | BadSetting
+create a/l shards=17 | BadSetting
+create a/l retention=9007199254740992 | BadSetting
+create a/l period=0 | BadSetting
+create a/l period=9007199254740992 | BadSetting
+create a/l x=1 | BadSetting
+create a/l replicas=7 shards=1 soft=on retention=9007199254740991 period=9007199254740991 | created
+create a/m replicas=0 shards=16 period=1 | created
+create a/o | created
+find a/l | (1, 7, 9007199254740991, 0, None)
+find a/m | (16, 0, 1, 1, None)
+find a/o | (1, 1, 43200000, 17, None)
+follow b/f a/m shards=16 | Err(BadSetting)
+follow b/f a/m soft=on | Err(BadSetting)
+follow b/f a/m retention=0 | Err(BadSetting)
+follow b/f a/m period=1 | Err(BadSetting)
+follow b/f a/m replicas=8 | Err(BadSetting)
+follow b/f a/m replicas=3 | Ok(())
+follow b/g a/m | Ok(())
+find b/f | (16, 3, 1, 1, Some(0))
+find b/g | (16, 0, 1, 1, Some(1))
+
+cluster a | Ok(())
+cluster b | Ok(())
+cluster c | Ok(())
+cluster d | Ok(())
+cluster e | Ok(())
+cluster f | Ok(())
+cluster g | Ok(())
+cluster h | Ok(())
+cluster i | Err(TooMany)
+cluster c | Err(ClusterExists)
+create a/a shards=16 | created
+create a/b shards=16 | created
+create a/c shards=16 | created
+create a/d shards=15 | created
+create a/e shards=2 | TooMany
+create a/e replicas=8 shards=2 | BadSetting
+create a/e | created
+create a/f | TooMany
+create a/a | IndexExists
+follow b/0 a/a | Ok(())
+follow b/1 a/a | Ok(())
+follow b/2 a/a | Ok(())
+follow b/3 a/a | Ok(())
+follow b/4 a/a | Ok(())
+follow b/5 a/a | Ok(())
+follow b/6 a/a | Ok(())
+follow b/7 a/a | Ok(())
+follow b/8 a/a | Err(TooMany)
+follow b/8 a/a x=1 | Err(BadSetting)
+follow b/8 a/b | Ok(())
+find b/8 | (16, 1, 43200000, 16, Some(0))
+find b/7 | (16, 1, 43200000, 0, Some(7))
+
+cluster a | Ok(())
+cluster b | Ok(())
+cluster c | Ok(())
+put b p3 a l* - 3-{{leader_index}} | Ok(())
+put b p1 a *s,l* - 1-{{leader_index}} | Ok(())
+put b p2 a *o* - 2-{{leader_index}} | Ok(())
+put c p a logs,l*,* - {{leader_index}} | Ok(())
+create a/logs replicas=0 | created conflict=b:p1,p2 followed=c/logs
+create a/o replicas=0 | created followed=b/2-o followed=c/o
+create a/lit replicas=0 | created conflict=b:p1,p3 followed=c/lit
+find b/1-logs | NoIndex
+delete b p1 | Ok(())
+create a/lat replicas=0 | created followed=b/3-lat followed=c/lat
+delete b p1 | refused by the patterns: Auto(NoPattern)
+delete d p1 | refused by the names: Meta(NoCluster)
+put d p a * - {{leader_index}} | refused by the names: Meta(NoCluster)
+put b p d * - {{leader_index}} | refused by the names: Meta(NoCluster)
+put b p2 a * - {{leader_index}} | refused by the patterns: Auto(NameTaken)
+put b p a * - x | refused by the patterns: Auto(BadPattern)
+put b p a - - {{leader_index}} | refused by the patterns: Auto(BadPattern)
+
+cluster a | Ok(())
+cluster b | Ok(())
+cluster c | Ok(())
+create b/logs replicas=0 | created
+put b p a * - {{leader_index}} | Ok(())
+put c p a * - UP-{{leader_index}} | Ok(())
+create a/logs replicas=0 | created refused=b:IndexExists refused=c:BadSetting
+create a/log replicas=0 | created followed=b/log refused=c:BadSetting
+delete c p | Ok(())
+create a/off replicas=0 soft=off | created refused=b:SoftDeletesOff
+put c p a z - x/{{leader_index}} | Ok(())
+create a/z replicas=0 | created followed=b/z refused=c:BadSetting
+
+cluster a | Ok(())
+cluster b | Ok(())
+put b p1 a logs-* logs-x* {{leader_index}} | Ok(())
+put b p2 a * logs-* {{leader_index}} | Ok(())
+create a/logs-1 | created followed=b/logs-1
+create a/logs-x1 | created
+create a/m | created followed=b/m
+put b p a * A {{leader_index}} | refused by the patterns: Auto(BadPattern)
+
+cluster a | Ok(())
+cluster b | Ok(())
+create a/l | created
+follow b/f a/l | Ok(())
+write a/l | None
+resync a/l | Some(NoShard)
+follower a/l | Some(NotFollower)
+write b/f | Some(IsFollower)
+resync b/f | Some(IsFollower)
+follower b/f | Some(NoShard)
+pause b/f bootstrapping | Some(Bootstrapping)
+resume b/f active | Some(NotPaused)
+unfollow b/f bootstrapping | Some(Bootstrapping)
+unfollow b/f active | Some(NotPaused)
+"#;
+
+/// The word of a command at this place, empty where there are not so many.
+fn word(command: &str, at: usize) -> &str {
+    command.split(' ').nth(at).unwrap_or("")
+}
 
 fn name(alloc: Global, text: &str) -> Result<Name, AllocError> {
     Ok(Name::new(ArcStr::from_str(alloc, text)?))
@@ -13,10 +161,9 @@ fn name(alloc: Global, text: &str) -> Result<Name, AllocError> {
 
 fn index_name(alloc: Global, text: &str) -> Result<IndexName, AllocError> {
     let (cluster, index) = text.split_once('/').unwrap_or((text, ""));
-    Ok(IndexName {
-        cluster: name(alloc, cluster)?,
-        index: name(alloc, index)?,
-    })
+    let cluster = name(alloc, cluster)?;
+    let index = name(alloc, index)?;
+    Ok(IndexName { cluster, index })
 }
 
 fn names(alloc: Global, words: &str) -> Result<Vec<Name>, AllocError> {
@@ -29,62 +176,42 @@ fn names(alloc: Global, words: &str) -> Result<Vec<Name>, AllocError> {
     Ok(list)
 }
 
-fn with_setting(settings: Settings, word: &str) -> Settings {
-    let (key, value) = word.split_once('=').unwrap_or((word, ""));
-    let number = value.parse::<u64>().unwrap_or(0);
-    let count = u32::try_from(number).unwrap_or(0);
-    match key {
-        "shards" => Settings {
-            shards: Some(count),
-            ..settings
-        },
-        "replicas" => Settings {
-            replicas: Some(count),
-            ..settings
-        },
-        "soft" => Settings {
-            soft_deletes: Some(value == "on"),
-            ..settings
-        },
-        "retention" => Settings {
-            retention: Some(number),
-            ..settings
-        },
-        "period" => Settings {
-            period: Some(number),
-            ..settings
-        },
-        _ => Settings {
-            bad: true,
-            ..settings
-        },
+/// The number behind a key in a command.
+fn setting(command: &str, key: &str) -> Option<u64> {
+    let (_, rest) = command.split_once(key)?;
+    let (value, _) = rest.split_once(' ').unwrap_or((rest, ""));
+    value.parse().ok()
+}
+
+fn count(command: &str, key: &str) -> Option<u32> {
+    u32::try_from(setting(command, key)?).ok()
+}
+
+fn soft_deletes(command: &str) -> Option<bool> {
+    if command.contains("soft=on") {
+        return Some(true);
+    }
+    if command.contains("soft=off") {
+        return Some(false);
+    }
+    None
+}
+
+fn settings(command: &str) -> Settings {
+    Settings {
+        shards: count(command, "shards="),
+        replicas: count(command, "replicas="),
+        soft_deletes: soft_deletes(command),
+        retention: setting(command, "retention="),
+        period: setting(command, "period="),
+        bad: command.contains("x=1"),
     }
 }
 
-fn settings_in(words: SplitWhitespace<'_>) -> Settings {
-    let mut settings = Settings {
-        shards: None,
-        replicas: None,
-        soft_deletes: None,
-        retention: None,
-        period: None,
-        bad: false,
-    };
-    for word in words {
-        settings = with_setting(settings, word);
-    }
-    settings
-}
-
-fn fault_text(alloc: Global, fault: MetaFault) -> Result<String, AllocError> {
-    format!(in alloc; "{fault:?}")
-}
-
-fn done_text(alloc: Global, done: Result<(), MetaFault>) -> Result<String, AllocError> {
-    match done {
-        Ok(()) => String::from_str(alloc, "ok"),
-        Err(fault) => fault_text(alloc, fault),
-    }
+/// Whether this is what a value is printed as for debugging.
+fn is_told(alloc: Global, value: &impl std::fmt::Debug, want: &str) -> Result<bool, AllocError> {
+    let text = format!(in alloc; "{value:?}")?;
+    Ok(text.as_str() == want)
 }
 
 fn decided_text(alloc: Global, one: &Decided) -> Result<String, AllocError> {
@@ -106,325 +233,165 @@ fn decided_text(alloc: Global, one: &Decided) -> Result<String, AllocError> {
     }
 }
 
-fn created_text(
-    alloc: Global,
-    created: Result<Vec<Decided>, MetaFault>,
-) -> Result<String, AllocError> {
-    match created {
-        Ok(list) => {
-            let mut text = String::from_str(alloc, "created")?;
-            for one in list.as_slice() {
-                text.push_str(decided_text(alloc, one)?.as_str())?;
-            }
-            Ok(text)
+fn is_decided(alloc: Global, list: &[Decided], want: &str) -> Result<bool, AllocError> {
+    let mut text = String::from_str(alloc, "created")?;
+    for one in list {
+        text.push_str(decided_text(alloc, one)?.as_str())?;
+    }
+    Ok(text.as_str() == want)
+}
+
+fn creates(meta: &mut Meta, alloc: Global, command: &str, want: &str) -> Result<bool, AllocError> {
+    let index = index_name(alloc, word(command, 1))?;
+    match meta.create(alloc, index, &settings(command)) {
+        Ok(list) => is_decided(alloc, list.as_slice(), want),
+        Err(fault) => is_told(alloc, &fault, want),
+    }
+}
+
+fn follows(meta: &mut Meta, alloc: Global, command: &str, want: &str) -> Result<bool, AllocError> {
+    let index = index_name(alloc, word(command, 1))?;
+    let leader = index_name(alloc, word(command, 2))?;
+    let done = meta.follow(index, &leader, &settings(command));
+    is_told(alloc, &done, want)
+}
+
+fn numbers(x: &IndexMeta) -> (u32, u32, u64, u32, Option<u32>) {
+    (x.shards, x.replicas, x.period, x.first, x.follower)
+}
+
+fn finds(meta: &Meta, alloc: Global, command: &str, want: &str) -> Result<bool, AllocError> {
+    match meta.find(&index_name(alloc, word(command, 1))?) {
+        Ok(x) => is_told(alloc, &numbers(x), want),
+        Err(fault) => is_told(alloc, &fault, want),
+    }
+}
+
+fn is_put(alloc: Global, put: Result<(), AutoRefused>, want: &str) -> Result<bool, AllocError> {
+    match put {
+        Ok(()) => Ok(want == "Ok(())"),
+        Err(refused) => {
+            let text = format!(in alloc; "{refused}: {refused:?}")?;
+            Ok(text.as_str() == want)
         }
-        Err(fault) => fault_text(alloc, fault),
     }
 }
 
-fn found_text(alloc: Global, found: Result<&IndexMeta, MetaFault>) -> Result<String, AllocError> {
-    match found {
-        Ok(x) => {
-            let shards = x.shards;
-            let replicas = x.replicas;
-            let period = x.period;
-            let first = x.first;
-            let follower = x.follower.unwrap_or(99);
-            format!(in alloc; "{shards} {replicas} {period} {first} {follower}")
-        }
-        Err(fault) => fault_text(alloc, fault),
-    }
+fn puts(meta: &mut Meta, alloc: Global, command: &str, want: &str) -> Result<bool, AllocError> {
+    let cluster = name(alloc, word(command, 1))?;
+    let pattern = name(alloc, word(command, 2))?;
+    let remote = name(alloc, word(command, 3))?;
+    let patterns = names(alloc, word(command, 4))?;
+    let exclude = names(alloc, word(command, 5))?;
+    let follow = name(alloc, word(command, 6))?;
+    let put = meta.auto_put(&cluster, pattern, remote, patterns, exclude, follow);
+    is_put(alloc, put, want)
 }
 
-fn put_text(
-    meta: &mut Meta,
-    alloc: Global,
-    cluster: &str,
-    mut words: SplitWhitespace<'_>,
-) -> Result<String, AllocError> {
-    let pattern = name(alloc, words.next().unwrap_or(""))?;
-    let remote = name(alloc, words.next().unwrap_or(""))?;
-    let patterns = names(alloc, words.next().unwrap_or(""))?;
-    let exclude = names(alloc, words.next().unwrap_or(""))?;
-    let follow = name(alloc, words.next().unwrap_or(""))?;
-    let cluster = name(alloc, cluster)?;
-    match meta.auto_put(&cluster, pattern, remote, patterns, exclude, follow) {
-        Ok(()) => String::from_str(alloc, "ok"),
-        Err(refused) => format!(in alloc; "{refused:?}"),
-    }
+fn deletes(meta: &mut Meta, alloc: Global, command: &str, want: &str) -> Result<bool, AllocError> {
+    let cluster = name(alloc, word(command, 1))?;
+    let pattern = name(alloc, word(command, 2))?;
+    let deleted = meta.auto_delete(&cluster, &pattern);
+    is_put(alloc, deleted, want)
 }
 
-fn delete_text(
-    meta: &mut Meta,
-    alloc: Global,
-    cluster: &str,
-    pattern: &str,
-) -> Result<String, AllocError> {
-    let cluster = name(alloc, cluster)?;
-    let pattern = name(alloc, pattern)?;
-    match meta.auto_delete(&cluster, &pattern) {
-        Ok(()) => String::from_str(alloc, "ok"),
-        Err(refused) => format!(in alloc; "{refused:?}"),
-    }
-}
-
-fn answer(meta: &mut Meta, alloc: Global, command: &str) -> Result<String, AllocError> {
-    let mut words = command.split_whitespace();
-    let op = words.next().unwrap_or("");
-    let first = words.next().unwrap_or("");
+/// Why a command on shard 1 of an index of one shard is refused.
+fn refusal(x: &IndexMeta, op: &str, phases: Phases) -> Option<MetaFault> {
     match op {
-        "cluster" => done_text(alloc, meta.add_cluster(name(alloc, first)?)),
-        "create" => {
-            let settings = settings_in(words);
-            let created = meta.create(alloc, index_name(alloc, first)?, &settings);
-            created_text(alloc, created)
-        }
-        "follow" => {
-            let leader = index_name(alloc, words.next().unwrap_or(""))?;
-            let settings = settings_in(words);
-            let done = meta.follow(index_name(alloc, first)?, &leader, &settings);
-            done_text(alloc, done)
-        }
-        "find" => found_text(alloc, meta.find(&index_name(alloc, first)?)),
-        "put" => put_text(meta, alloc, first, words),
-        _ => delete_text(meta, alloc, first, words.next().unwrap_or("")),
+        "write" => x.write_refusal(),
+        "resync" => x.resync_refusal(1),
+        "follower" => x.follower_shard_refusal(1),
+        "pause" => x.pause_refusal(phases),
+        "resume" => x.resume_refusal(phases),
+        _ => x.unfollow_refusal(phases),
     }
 }
 
-// The first line of a table whose answer is another one, or nothing.
-fn first_wrong(alloc: Global, table: &str) -> Result<String, Fail> {
+fn is_refused(meta: &Meta, alloc: Global, command: &str, want: &str) -> Result<bool, AllocError> {
+    let phases = Phases {
+        bootstrapping: word(command, 2) == "bootstrapping",
+        active: word(command, 2) == "active",
+        paused: false,
+    };
+    match meta.find(&index_name(alloc, word(command, 1))?) {
+        Ok(x) => is_told(alloc, &refusal(x, word(command, 0), phases), want),
+        Err(_) => Ok(false),
+    }
+}
+
+/// Whether a command comes to what is wanted.
+fn is_right(meta: &mut Meta, alloc: Global, command: &str, want: &str) -> Result<bool, AllocError> {
+    match word(command, 0) {
+        "cluster" => {
+            let added = meta.add_cluster(name(alloc, word(command, 1))?);
+            is_told(alloc, &added, want)
+        }
+        "create" => creates(meta, alloc, command, want),
+        "follow" => follows(meta, alloc, command, want),
+        "find" => finds(meta, alloc, command, want),
+        "put" => puts(meta, alloc, command, want),
+        "delete" => deletes(meta, alloc, command, want),
+        _ => is_refused(meta, alloc, command, want),
+    }
+}
+
+/// The first command that comes to something else, and which line that is.
+fn first_wrong(alloc: Global, tables: &'static str) -> Result<&'static str, AllocError> {
     let mut meta = Meta::new(alloc);
-    for line in table.lines() {
-        let (command, want) = line.split_once(" | ").unwrap_or((line, "ok"));
-        let told = answer(&mut meta, alloc, command)?;
-        if told.as_str() != want {
-            let told = told.as_str();
-            return Ok(format!(in alloc; "{line} but {told}")?);
+    for line in tables.lines() {
+        match line.split_once(" | ") {
+            Some((command, want)) => {
+                if !is_right(&mut meta, alloc, command, want)? {
+                    return Ok(line);
+                }
+            }
+            None => meta = Meta::new(alloc),
         }
     }
-    Ok(String::new(alloc))
+    Ok("")
 }
 
 #[test]
-fn refusals_come_in_their_order(rt: HostRuntime) -> Result<(), Fail> {
-    let table = "cluster a\ncluster b
-create a/l replicas=0 | created
-create a/off replicas=0 soft=off | created
-follow b/f a/l
-create c/x replicas=9 | NoCluster
-create a/l replicas=9 | IndexExists
-create b/f | IndexExists
-follow c/f a/none | NoCluster
-follow b/g c/l | NoCluster
-follow b/f a/none | NoIndex
-follow b/f b/f | IndexExists
-follow b/f a/off | IndexExists
-follow b/g b/f x=1 | IsFollower
-follow a/g a/l | BadSetting
-follow a/g a/off | SoftDeletesOff
-follow b/g a/off x=1 | SoftDeletesOff
-cluster a | ClusterExists
-find c/x | NoCluster\nfind a/x | NoIndex
-cluster - | BadSetting\ncluster _a | BadSetting\ncluster A | BadSetting";
-    let wrong = first_wrong(rt.alloc(), table)?;
-    assert!(rt; wrong.is_empty(), "{wrong}");
+fn commands_come_to_their_answers(rt: HostRuntime) -> Result<(), Fail> {
+    assert_eq!(rt; first_wrong(rt.alloc(), TABLES)?, "");
     Ok(())
+}
+
+/// The shard of a document, by its id and perhaps a routing.
+fn shard(alloc: Global, id: &str, routing: &str, shards: u32) -> Option<u32> {
+    let id = DocId::new(ArcStr::from_str(alloc, id).ok()?)?;
+    let routing = DocId::new(ArcStr::from_str(alloc, routing).ok()?);
+    Some(route(&id, routing.as_ref(), shards.max(1)))
+}
+
+/// How many shards, an id, a routing or a dash, and the shard. The published hashes of FNV-1a with 64 bits are
+/// af63dc4c8601ec8c of `a` and af63df4c8601f1a5 of `b`, here modulo 2^32 - 1 and modulo 2^32 - 5. A routing stands for
+/// the id.
+const ROUTES: &str = "4294967295 a  895863001
+4294967291 a  4076157463
+4294967295 b  895865074
+4294967291 b  4076162608
+2 a  0
+2 b  1
+2 a b 1
+2 b a 0
+1 b  0";
+
+fn is_routed(alloc: Global, line: &str) -> bool {
+    let shards = word(line, 0).parse().unwrap_or(0);
+    shard(alloc, word(line, 1), word(line, 2), shards) == word(line, 3).parse().ok()
 }
 
 #[test]
-fn settings_lie_in_their_ranges(rt: HostRuntime) -> Result<(), Fail> {
-    let table = "cluster a\ncluster b
-create a/l replicas=8 | BadSetting
-create a/l shards=0 | BadSetting
-create a/l shards=17 | BadSetting
-create a/l retention=9007199254740992 | BadSetting
-create a/l period=0 | BadSetting
-create a/l period=9007199254740992 | BadSetting
-create a/l x=1 | BadSetting
-create a/l replicas=7 shards=1 soft=on retention=9007199254740991 period=9007199254740991 | created
-create a/m replicas=0 shards=16 period=1 | created
-create a/o | created
-find a/l | 1 7 9007199254740991 0 99
-find a/m | 16 0 1 1 99
-find a/o | 1 1 43200000 17 99
-follow b/f a/m shards=16 | BadSetting
-follow b/f a/m soft=on | BadSetting
-follow b/f a/m retention=0 | BadSetting
-follow b/f a/m period=1 | BadSetting
-follow b/f a/m replicas=8 | BadSetting
-follow b/f a/m replicas=3
-follow b/g a/m
-find b/f | 16 3 1 1 0
-find b/g | 16 0 1 1 1";
-    let wrong = first_wrong(rt.alloc(), table)?;
-    assert!(rt; wrong.is_empty(), "{wrong}");
-    Ok(())
-}
-
-#[test]
-fn limits_are_reached(rt: HostRuntime) -> Result<(), Fail> {
-    let clusters =
-        "cluster a\ncluster b\ncluster c\ncluster d\ncluster e\ncluster f\ncluster g\ncluster h
-cluster i | TooMany\ncluster c | ClusterExists
-create a/a shards=16 | created
-create a/b shards=16 | created
-create a/c shards=16 | created
-create a/d shards=15 | created
-create a/e shards=2 | TooMany
-create a/e replicas=8 shards=2 | BadSetting
-create a/e | created
-create a/f | TooMany
-create a/a | IndexExists
-follow b/0 a/a\nfollow b/1 a/a\nfollow b/2 a/a\nfollow b/3 a/a
-follow b/4 a/a\nfollow b/5 a/a\nfollow b/6 a/a\nfollow b/7 a/a
-follow b/8 a/a | TooMany\nfollow b/8 a/a x=1 | BadSetting
-follow b/8 a/b\nfind b/8 | 16 1 43200000 16 0\nfind b/7 | 16 1 43200000 0 7";
-    let wrong = first_wrong(rt.alloc(), clusters)?;
-    assert!(rt; wrong.is_empty(), "{wrong}");
-    Ok(())
-}
-
-#[test]
-fn patterns_decide_of_new_indices(rt: HostRuntime) -> Result<(), Fail> {
-    let table = "cluster a\ncluster b\ncluster c
-put b p3 a l* - 3-{{leader_index}}
-put b p1 a *s,l* - 1-{{leader_index}}
-put b p2 a *o* - 2-{{leader_index}}
-put c p a logs,l*,* - {{leader_index}}
-create a/logs replicas=0 | created conflict=b:p1,p2 followed=c/logs
-create a/o replicas=0 | created followed=b/2-o followed=c/o
-create a/lit replicas=0 | created conflict=b:p1,p3 followed=c/lit
-find b/1-logs | NoIndex
-delete b p1
-create a/lat replicas=0 | created followed=b/3-lat followed=c/lat
-delete b p1 | Auto(NoPattern)\ndelete d p1 | Meta(NoCluster)
-put d p a * - {{leader_index}} | Meta(NoCluster)
-put b p d * - {{leader_index}} | Meta(NoCluster)
-put b p2 a * - {{leader_index}} | Auto(NameTaken)
-put b p a * - x | Auto(BadPattern)
-put b p a - - {{leader_index}} | Auto(BadPattern)";
-    let wrong = first_wrong(rt.alloc(), table)?;
-    assert!(rt; wrong.is_empty(), "{wrong}");
-    Ok(())
-}
-
-#[test]
-fn what_was_decided_may_be_refused(rt: HostRuntime) -> Result<(), Fail> {
-    let table = "cluster a\ncluster b\ncluster c
-create b/logs replicas=0 | created
-put b p a * - {{leader_index}}
-put c p a * - UP-{{leader_index}}
-create a/logs replicas=0 | created refused=b:IndexExists refused=c:BadSetting
-create a/log replicas=0 | created followed=b/log refused=c:BadSetting
-delete c p
-create a/off replicas=0 soft=off | created refused=b:SoftDeletesOff
-put c p a z - x/{{leader_index}}
-create a/z replicas=0 | created followed=b/z refused=c:BadSetting";
-    let wrong = first_wrong(rt.alloc(), table)?;
-    assert!(rt; wrong.is_empty(), "{wrong}");
-    Ok(())
-}
-
-#[test]
-fn exclusions_are_not_followed(rt: HostRuntime) -> Result<(), Fail> {
-    let table = "cluster a\ncluster b
-put b p1 a logs-* logs-x* {{leader_index}}
-put b p2 a * logs-* {{leader_index}}
-create a/logs-1 | created followed=b/logs-1
-create a/logs-x1 | created
-create a/m | created followed=b/m
-put b p a * A {{leader_index}} | Auto(BadPattern)";
-    let wrong = first_wrong(rt.alloc(), table)?;
-    assert!(rt; wrong.is_empty(), "{wrong}");
-    Ok(())
-}
-
-fn id(alloc: Global, text: &str) -> Result<DocId, Fail> {
-    match DocId::new(ArcStr::from_str(alloc, text)?) {
-        Some(id) => Ok(id),
-        None => Err(Fail::from("it is an id")),
+fn documents_have_their_shards(rt: HostRuntime) {
+    for line in ROUTES.lines() {
+        assert!(rt; is_routed(rt.alloc(), line), "{line}");
     }
-}
-
-fn shard_by(id: &DocId, routing: &DocId) -> u32 {
-    route(id, Some(routing), 2)
-}
-
-#[test]
-fn a_routing_text_stands_for_the_id(rt: HostRuntime) -> Result<(), Fail> {
-    let a = id(rt.alloc(), "a")?;
-    let b = id(rt.alloc(), "b")?;
-    assert!(rt; route(&a, None, 2) == 0);
-    assert!(rt; route(&b, None, 2) == 1);
-    assert!(rt; shard_by(&a, &b) == 1);
-    assert!(rt; shard_by(&b, &a) == 0);
-    assert!(rt; route(&b, None, 1) == 0);
-    Ok(())
-}
-
-// The published hashes of FNV-1a with 64 bits, af63dc4c8601ec8c and af63df4c8601f1a5, modulo 2^32 - 1 and
-// modulo 2^32 - 5.
-#[test]
-fn the_hash_is_that_of_fnv_1a(rt: HostRuntime) -> Result<(), Fail> {
-    let a = id(rt.alloc(), "a")?;
-    let b = id(rt.alloc(), "b")?;
-    assert!(rt; route(&a, None, 4_294_967_295) == 895_863_001);
-    assert!(rt; route(&a, None, 4_294_967_291) == 4_076_157_463);
-    assert!(rt; route(&b, None, 4_294_967_295) == 895_865_074);
-    assert!(rt; route(&b, None, 4_294_967_291) == 4_076_162_608);
-    Ok(())
 }
 
 #[test]
 fn an_index_has_its_uuid(rt: HostRuntime) -> Result<(), Fail> {
-    let uuid = uuid_of("index:a/l");
-    let text = format!(in rt.alloc(); "{uuid}")?;
-    assert!(rt;
-        text.as_str() == "223c283b-627d-5bac-9463-bf337a05a8ea",
-        "{text}"
-    );
-    Ok(())
-}
-
-#[test]
-fn phases_refuse(rt: HostRuntime) -> Result<(), Fail> {
-    let alloc = rt.alloc();
-    let mut meta = Meta::new(alloc);
-    let none = settings_in("".split_whitespace());
-    assert!(rt; meta.add_cluster(name(alloc, "a")?).is_ok());
-    assert!(rt; meta.add_cluster(name(alloc, "b")?).is_ok());
-    assert!(rt; meta.create(alloc, index_name(alloc, "a/l")?, &none).is_ok());
-    let leader = index_name(alloc, "a/l")?;
-    assert!(rt;
-        meta.follow(index_name(alloc, "b/f")?, &leader, &none)
-            .is_ok()
-    );
-    let boot = Phases {
-        bootstrapping: true,
-        active: false,
-        paused: false,
-    };
-    let active = Phases {
-        bootstrapping: false,
-        active: true,
-        paused: false,
-    };
-    let Ok(x) = meta.find(&leader) else {
-        return Err(Fail::from("the index is there"));
-    };
-    assert!(rt; x.write_refusal().is_none());
-    assert!(rt; x.resync_refusal(1) == Some(MetaFault::NoShard));
-    assert!(rt; x.follower_shard_refusal(1) == Some(MetaFault::NotFollower));
-    let Ok(x) = meta.find(&index_name(alloc, "b/f")?) else {
-        return Err(Fail::from("the index is there"));
-    };
-    assert!(rt; x.write_refusal() == Some(MetaFault::IsFollower));
-    assert!(rt; x.resync_refusal(1) == Some(MetaFault::IsFollower));
-    assert!(rt; x.pause_refusal(boot) == Some(MetaFault::Bootstrapping));
-    assert!(rt; x.resume_refusal(active) == Some(MetaFault::NotPaused));
-    assert!(rt; x.unfollow_refusal(boot) == Some(MetaFault::Bootstrapping));
-    assert!(rt; x.unfollow_refusal(active) == Some(MetaFault::NotPaused));
-    assert!(rt; x.follower_refusal().is_none());
-    assert!(rt; x.shard_refusal(0).is_none());
+    let text = format!(in rt.alloc(); "{}", uuid_of("index:a/l"))?;
+    assert_eq!(rt; text.as_str(), "223c283b-627d-5bac-9463-bf337a05a8ea");
     Ok(())
 }

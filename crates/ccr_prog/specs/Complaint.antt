@@ -1,11 +1,13 @@
-use Rattle.ccr_run.specs.declared.statuses.Status.{Status}
-use Rattle.ccr_run.specs.declared.statuses.Status.TheVariants.{Done, BadLine, ReadFault, WriteFault, OutOfMemory, Usage}
+-- What is said on standard error of a run that ended so.
+use Rattle.std.specs.Prelude.{ℕ, List, Option, Some, None, codes}
+use Rattle.ccr_playing.specs.declared.statuses.Status.{Status}
+use Rattle.ccr_playing.specs.declared.statuses.Status.TheVariants.{Done, BadLine, ReadFault, WriteFault, OutOfMemory, Usage}
 
--- a run that ended so says nothing on standard error: a bad line is told by its answer
-abbrev pub IsQuiet : Status → Type 0
-IsQuiet Done = Unit {0}
-IsQuiet (BadLine line why) = Unit {0}
-IsQuiet ReadFault = ⊥
-IsQuiet WriteFault = ⊥
-IsQuiet OutOfMemory = ⊥
-IsQuiet Usage = ⊥
+-- a bad line is told by its answer
+abbrev pub complaint_of : Status → Option (List ℕ)
+complaint_of Done = None
+complaint_of (BadLine line why) = None
+complaint_of ReadFault = Some (codes "ccr: read failed")
+complaint_of WriteFault = Some (codes "ccr: write failed")
+complaint_of OutOfMemory = Some (codes "ccr: out of memory")
+complaint_of Usage = Some (codes "usage: ccr replay")

@@ -1,8 +1,3 @@
-pub mod JsonTexts
-pub mod Fields
-pub mod Texts
-pub mod Joins
-pub mod Parts
-pub mod Runs
-pub mod Forms
-pub mod Deeds
+pub mod HandedIn
+pub mod Scenes
+pub mod Words

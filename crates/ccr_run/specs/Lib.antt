@@ -1,12 +1,2 @@
-pub mod Commands
-pub mod Answers
-pub mod Lines
-pub mod Reader
-pub mod Printed
-pub mod Script
-pub mod Played
-pub mod Turns
-pub mod Deeds
-pub mod Stops
-pub mod Replay
-pub mod Codes
+pub mod Forms
+pub mod Reports

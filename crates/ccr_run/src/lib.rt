@@ -1,23 +1,11 @@
-//! The program's top call: a script of JSON lines is read, its commands happen in a shard world, and each
-//! is answered by a line.
+//! The program's top call: a script of JSON lines is read, its commands are done one after another in shard worlds, and
+//! each is answered by a line.
 #![tactic(auto)]
 
-mod answers;
-mod bad_lines;
-mod chunks;
-mod commands;
-mod lines;
-mod players;
-mod playing;
-mod printed;
-#[cfg(test)]
-mod replay_tests;
+mod forms;
 mod replays;
-mod shard_player;
-mod statuses;
-#[cfg(test)]
-mod tests;
+mod reports;
 
-pub use bad_lines::BadLine;
+pub use ccr_playing::Status;
 pub use replays::replay;
-pub use statuses::{Report, Status};
+pub use reports::Report;

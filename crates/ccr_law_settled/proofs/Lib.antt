@@ -1,0 +1,10 @@
+pub mod WholeCopies
+pub mod AfterSettle
+pub mod Outlined
+pub mod OutlineRows
+pub mod LiveOfLine
+pub mod OutlineSettles
+pub mod OutlineEvents
+pub mod ScriptLines
+pub mod Commands
+pub mod Answered
