@@ -41,7 +41,7 @@ def run(program, words, text=None, source=None, out=subprocess.PIPE, before=None
 
 def faults(program):
     """Each case with what was found otherwise than wanted."""
-    usage = "usage: ccr replay\n"
+    usage = "usage: ccr replay | sample SEED WRITES\n"
     wanted = {
         "done": (0, "", "1 ok\n"),
         "bad line": (2, "", "1 ok\n2 bad NoOp\n"),
@@ -49,6 +49,7 @@ def faults(program):
         "write fault": (4, "ccr: write failed\n", ""),
         "no words": (64, usage, ""),
         "words behind": (64, usage, ""),
+        "sample": (0, "", "writes=12 deletes=3 live=3 same=yes\n"),
     }
     folder = os.open("/", os.O_RDONLY)
     with open("/dev/full", "wb") as full:
@@ -59,6 +60,7 @@ def faults(program):
             "write fault": run(program, ["replay"], CLUSTER, out=full),
             "no words": run(program, [], CLUSTER),
             "words behind": run(program, ["replay", "all"], CLUSTER),
+            "sample": run(program, ["sample", "5", "12"], ""),
         }
     os.close(folder)
     for name, want in wanted.items():
@@ -79,7 +81,7 @@ def main():
     found = list(faults(shlex.split(parser.parse_args().program)))
     for fault in found:
         print(fault)
-    print(f"7 runs, {len(found)} faults")
+    print(f"8 runs, {len(found)} faults")
     return 1 if found else 0
 
 

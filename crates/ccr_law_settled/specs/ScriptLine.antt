@@ -13,7 +13,7 @@ use Rattle.ccr_model.specs.Leaders.{Start}
 use Rattle.ccr_model.specs.LeaderRows.{source_fault}
 use Rattle.ccr_law_settled.specs.Outlines.{Outline, new_outline, replica_at, stale_at, writing, copying, acking, resyncing, promoting, forcing, failing, adding, settling}
 
--- what a command on a shard makes of its outline; all other events leave it as it is
+-- what a command on a shard makes of its outline; all other events leave it as it is, also a sync, which only tells what is committed
 abbrev pub commanded : Outline → Event → Outline
 commanded t (events.Write request) = writing t request (source_fault request.body) (live t.line.ops request.id)
 commanded t (events.Replicate sides.Leader copy seq) = copying t copy seq (replica_at copy t.replicas)

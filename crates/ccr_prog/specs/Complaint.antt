@@ -10,4 +10,4 @@ complaint_of (BadLine line why) = None
 complaint_of ReadFault = Some (codes "ccr: read failed")
 complaint_of WriteFault = Some (codes "ccr: write failed")
 complaint_of OutOfMemory = Some (codes "ccr: out of memory")
-complaint_of Usage = Some (codes "usage: ccr replay")
+complaint_of Usage = Some (codes "usage: ccr replay | sample SEED WRITES")

@@ -1,4 +1,5 @@
-//! `ccr replay`: reads a script from standard input, and writes an answer line for each command.
+//! `ccr replay` reads a script from standard input, and writes an answer line for each command. `ccr sample SEED WRITES`
+//! does a script that is made from the seed, and writes one line that sums it up.
 #![tactic(auto)]
 
 ghost use Rattle.std.specs.Prelude.{◌≡◌, option_copied};
@@ -70,7 +71,7 @@ fn complaint(status: Status) -> Option<&'static str>
         Status::ReadFault => Some("ccr: read failed"),
         Status::WriteFault => Some("ccr: write failed"),
         Status::OutOfMemory => Some("ccr: out of memory"),
-        Status::Usage => Some("usage: ccr replay"),
+        Status::Usage => Some("usage: ccr replay | sample SEED WRITES"),
     }
 }
 

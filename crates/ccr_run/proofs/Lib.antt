@@ -1,3 +1,5 @@
+pub mod Ends
 pub mod HandedIn
+pub mod Numbers
+pub mod Sameness
 pub mod Scenes
-pub mod Words

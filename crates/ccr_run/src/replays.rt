@@ -1,13 +1,16 @@
 // A script is replayed.
-ghost use Rattle.std.specs.Prelude.{◌≡◌, ◌≢◌, ◌-◌, ◌<◌, ◌^◌, [], map, slice_get, string_bytes};
+ghost use Rattle.std.specs.Prelude.{ℕ, ◌≡◌, ◌≢◌, ◌↔◌, ◌-◌, ◌<◌, ◌^◌, [], None, Some, map, slice_get, string_bytes};
 ghost use Rattle.ccr_model.specs.Policies.{picks_of};
+ghost use Rattle.ccr_script.specs.Generated.{generated};
 ghost use Rattle.ccr_playing.specs.Tells.{AreTold};
 ghost use Rattle.ccr_worlds.specs.Fated.{AreLeft};
-ghost use Rattle.ccr_run.specs.Forms.{IsReplay};
+ghost use Rattle.ccr_run.specs.Forms.{form_of as form_of_words};
 ghost use Rattle.ccr_run.specs.Reports.{Reported};
+ghost use Rattle.ccr_run.specs.Samples.{Sampled};
 
-use crate::forms::is_replay;
+use crate::forms::{Form, form_of};
 use crate::reports::Report;
+use crate::samples::sample_in;
 use ccr_game::Game;
 use ccr_io::{Sink, Source};
 use ccr_playing::{Status, play};
@@ -53,14 +56,15 @@ fn replay_in<P: Chooser, S: Source, O: Sink>(
     replay_handed::<P, Brand, S, O>(alloc, script, out, policies)
 }
 
-/// Replays a script of JSON lines: does their commands one after another, and writes the answer line of each when it is
-/// done. The words are to be exactly `replay`.
+/// Does what the words ask for. `replay` reads a script of JSON lines, does their commands one after another, and writes
+/// the answer line of each when it is done. `sample SEED WRITES` reads nothing: it does a script of so many writes and
+/// deletes that is made from the seed, and writes one line that sums it up.
 ///
 /// Each created leader shard takes the next of the policies, which picks what its merges join, and none where they are
 /// used up. The first failure of the source or of the sink ends the run.
 ///
-/// It takes memory by what the commands keep, and not by the script; the work goes with the bytes of the script and with
-/// what its commands read and move.
+/// A replay takes memory by what its commands keep, and not by its script; the work goes with the bytes of the script
+/// and with what its commands read and move. A sample keeps its whole script.
 #[tactic(auto, using(crate::proofs::HandedIn::is_no_usage))]
 pub fn replay<S: Source, K: Sink>(
     alloc: Global,
@@ -72,26 +76,33 @@ pub fn replay<S: Source, K: Sink>(
     requires source { S.faults script.old < 2 ^ 64 - 1 }
     requires sink { K.faults out.old < 2 ^ 64 - 1 }
 
-    // Usage comes exactly where the words are not the form: nothing is read or written then, and there is no journal.
-    ensures usage { (result.status ≡ Status.Usage) → ¬ IsReplay (map string_bytes words.now.items) }
-    ensures form { ¬ IsReplay (map string_bytes words.now.items) → result.status ≡ Status.Usage }
+    // Usage comes exactly where the words are of no form: nothing is read or written then, and there is no journal.
+    ensures usage { (result.status ≡ Status.Usage) ↔ (form_of_words (map string_bytes words.now.items) ≡ None) }
     ensures unread { result.status ≡ Status.Usage → (S.left script.new ≡ S.left script.old) × (S.faults script.new ≡ S.faults script.old) }
     ensures unwritten { result.status ≡ Status.Usage → (K.taken out.new ≡ K.taken out.old) × (K.faults out.new ≡ K.faults out.old) }
     ensures none { result.status ≡ Status.Usage → result.journals.items ≡ [] }
 
-    // Only what ended the run failed, and once.
+    // Only what ended the run failed.
     ensures faults { result.status ≢ Status.Usage → AreTold result.status (S.faults script.old) (S.faults script.new) (K.faults out.old) (K.faults out.new) }
 
     // One scene tells what was done and written, and its journals are those of the report.
-    ensures report { result.status ≢ Status.Usage →
+    ensures replay { form_of_words (map string_bytes words.now.items) ≡ Some Form.Replay →
         Reported (λ n. picks_of ⟦<Box<dyn MergePolicy> as Chooser>⟧.fate (slice_get policies.items n)) result.status
         (S.left script.old) (S.left script.new) result.journals.items (K.taken out.old) (K.taken out.new) }
+
+    // So it is with a script that is made from a seed, of which nothing is read.
+    ensures sample { (seed writes : ℕ) → form_of_words (map string_bytes words.now.items) ≡ Some (Form.Sample seed writes) →
+        Sampled (λ n. picks_of ⟦<Box<dyn MergePolicy> as Chooser>⟧.fate (slice_get policies.items n)) (generated seed writes) result.status
+        result.journals.items (K.taken out.old) (K.taken out.new) }
+    ensures sample_unread { (seed writes : ℕ) → form_of_words (map string_bytes words.now.items) ≡ Some (Form.Sample seed writes) →
+        S.left script.new ≡ S.left script.old }
 {
-    if !is_replay(words.as_slice()) {
-        return Report {
+    match form_of(words.as_slice()) {
+        None => Report {
             status: Status::Usage,
             journals: Vec::new(alloc),
-        };
+        },
+        Some(Form::Replay) => replay_in(alloc, script, out, policies),
+        Some(Form::Sample { seed, writes }) => sample_in(alloc, seed, writes, out, policies),
     }
-    replay_in(alloc, script, out, policies)
 }

@@ -1,77 +1,52 @@
-use ccr_script::{generate, read_command};
-use std::alloc::{AllocError, Global};
-use std::test::Fail;
+use ccr_script::{BadLine, generate, read_command};
+use std::alloc::Global;
+use std::fmt::{Debug, Display};
 
-// Each line has what a line of a script is read as, a bar, and the line.
-const BAD_LINES: &str = r#"NotJson|hello
-NotJson|{"op":"settle"} {"op":"settle"}
-NotJson|{"op":"deliver","index":"b/f","at":01}
-NotJson|{"op":"clock","cluster":"a","now":NaN}
-NotJson|{"op":"clock","cluster":"a","now":1e400}
-NoOp|{"op":5,"name":"c"}
-NoOp|"settle"
-NoOp|[]
-NoOp|{"op":"nothing"}
-NoOp|{"op":"Settle"}
-BadField|{"op":"cluster"}
-BadField|{"op":"cluster","name":5}
-BadField|{"op":"settle","index":"a/l"}
-BadField|{"op":"drop","index":"a/l","at":0,"copy":1}
-BadField|{"op":"create","index":"a/l","shards":1}
-BadField|{"op":"create","index":"a/l","settings":[]}
-BadField|{"op":"create","index":"a/L"}
-BadField|{"op":"create","index":"al"}
-BadField|{"op":"create","index":"a/"}
-BadField|{"op":"create","index":"a/l/m"}
-BadField|{"op":"create","index":"a/-l"}
-BadField|{"op":"follow","index":"b/f","leader":"a/l","params":"x"}
-BadField|{"op":"deliver","index":"a/l","at":-1}
-BadField|{"op":"deliver","index":"a/l","at":"0"}
-BadField|{"op":"deliver","index":"a/l","at":1.0}
-BadField|{"op":"deliver","index":"a/l","at":9007199254740992}
-BadField|{"op":"deliver","index":"a/l","at":0,"keep":1}
-BadField|{"op":"ack","index":"a/l","copy":true}
-BadField|{"op":"write","index":"a/l","id":"","source":{}}
-BadField|{"op":"write","index":"a/l","id":"a"}
-BadField|{"op":"write","index":"a/l","id":"a","source":{},"if_seq_no":0}
-BadField|{"op":"write","index":"a/l","id":"a","source":{},"create":false,"if_seq_no":0,"if_primary_term":1}
-BadField|{"op":"write","index":"a/l","id":"a","source":{},"routing":""}
-BadField|{"op":"auto_put","cluster":"b","name":"P","remote":"a","patterns":["*"],"follow":"x"}
-BadField|{"op":"auto_put","cluster":"b","name":"p","remote":"A","patterns":["*"],"follow":"x"}
-BadField|{"op":"auto_put","cluster":"b","name":"p","remote":"a","patterns":[1],"follow":"x"}
-BadField|{"op":"search","index":"a/l","from":1,"size":10000}
-BadField|{"op":"search","index":"a/l","sort":[{"n":"up"}]}
-BadField|{"op":"search","index":"a/l","sort":{"n":"asc"}}
-BadField|{"op":"search","index":"a/l","query":{}}
-BadField|{"op":"search","index":"a/l","query":{"match":{"n":1}}}"#;
-
-// The command of a line, or why it has none.
-fn told(alloc: Global, line: &[u8]) -> Result<String, AllocError> {
-    match read_command(alloc, line) {
-        Ok(command) => format!(in alloc; "{command:?}"),
-        Err(why) => format!(in alloc; "{why:?}"),
-    }
-}
-
-// Whether a line is read as is said in front of the bar.
-fn is_read(alloc: Global, case: &str) -> Result<bool, AllocError> {
-    let Some((want, line)) = case.split_once('|') else {
-        return Ok(false);
-    };
-    Ok(told(alloc, line.as_bytes())?.as_str() == want)
-}
-
-#[test]
-fn bad_lines_are_told_by_their_cause(rt: HostRuntime) -> Result<(), Fail> {
-    for case in BAD_LINES.lines() {
-        assert!(rt; is_read(rt.alloc(), case)?, "{case}");
-    }
-    assert_eq!(rt; told(rt.alloc(), b"{\"op\":\"\xff\"}")?.as_str(), "NotJson");
-    Ok(())
-}
-
-// As above, of lines that are commands.
-const COMMANDS: &str = r#"Some(Settle)|{"op":"settle"}
+/// Each line has what a line of a script is read as, a bar, and the line.
+const LINES: &str = r#"None|
+None|   
+the line isn't JSON|hello
+the line isn't JSON|{"op":"settle"} {"op":"settle"}
+the line isn't JSON|{"op":"deliver","index":"b/f","at":01}
+the line isn't JSON|{"op":"clock","cluster":"a","now":NaN}
+the line isn't JSON|{"op":"clock","cluster":"a","now":1e400}
+the line names no command|{"op":5,"name":"c"}
+the line names no command|"settle"
+the line names no command|[]
+the line names no command|{"op":"nothing"}
+the line names no command|{"op":"Settle"}
+a field is absent, unlisted, or not of its kind|{"op":"cluster"}
+a field is absent, unlisted, or not of its kind|{"op":"cluster","name":5}
+a field is absent, unlisted, or not of its kind|{"op":"settle","index":"a/l"}
+a field is absent, unlisted, or not of its kind|{"op":"drop","index":"a/l","at":0,"copy":1}
+a field is absent, unlisted, or not of its kind|{"op":"create","index":"a/l","shards":1}
+a field is absent, unlisted, or not of its kind|{"op":"create","index":"a/l","settings":[]}
+a field is absent, unlisted, or not of its kind|{"op":"create","index":"a/L"}
+a field is absent, unlisted, or not of its kind|{"op":"create","index":"al"}
+a field is absent, unlisted, or not of its kind|{"op":"create","index":"a/"}
+a field is absent, unlisted, or not of its kind|{"op":"create","index":"a/l/m"}
+a field is absent, unlisted, or not of its kind|{"op":"create","index":"a/-l"}
+a field is absent, unlisted, or not of its kind|{"op":"follow","index":"b/f","leader":"a/l","params":"x"}
+a field is absent, unlisted, or not of its kind|{"op":"deliver","index":"a/l","at":-1}
+a field is absent, unlisted, or not of its kind|{"op":"deliver","index":"a/l","at":"0"}
+a field is absent, unlisted, or not of its kind|{"op":"deliver","index":"a/l","at":1.0}
+a field is absent, unlisted, or not of its kind|{"op":"deliver","index":"a/l","at":9007199254740992}
+a field is absent, unlisted, or not of its kind|{"op":"deliver","index":"a/l","at":0,"keep":1}
+a field is absent, unlisted, or not of its kind|{"op":"ack","index":"a/l","copy":true}
+a field is absent, unlisted, or not of its kind|{"op":"write","index":"a/l","id":"","source":{}}
+a field is absent, unlisted, or not of its kind|{"op":"write","index":"a/l","id":"a"}
+a field is absent, unlisted, or not of its kind|{"op":"write","index":"a/l","id":"a","source":{},"if_seq_no":0}
+a field is absent, unlisted, or not of its kind|{"op":"write","index":"a/l","id":"a","source":{},"create":false,"if_seq_no":0,"if_primary_term":1}
+a field is absent, unlisted, or not of its kind|{"op":"write","index":"a/l","id":"a","source":{},"routing":""}
+a field is absent, unlisted, or not of its kind|{"op":"auto_put","cluster":"b","name":"P","remote":"a","patterns":["*"],"follow":"x"}
+a field is absent, unlisted, or not of its kind|{"op":"auto_put","cluster":"b","name":"p","remote":"A","patterns":["*"],"follow":"x"}
+a field is absent, unlisted, or not of its kind|{"op":"auto_put","cluster":"b","name":"p","remote":"a","patterns":[1],"follow":"x"}
+a field is absent, unlisted, or not of its kind|{"op":"search","index":"a/l","from":1,"size":10000}
+a field is absent, unlisted, or not of its kind|{"op":"search","index":"a/l","sort":[{"n":"up"}]}
+a field is absent, unlisted, or not of its kind|{"op":"search","index":"a/l","sort":{"n":"asc"}}
+a field is absent, unlisted, or not of its kind|{"op":"search","index":"a/l","query":{}}
+a field is absent, unlisted, or not of its kind|{"op":"search","index":"a/l","query":{"match":{"n":1}}}
+Some(Settle)|{"op":"settle"}
 Some(Deliver { index: IndexName { cluster: Name { text: "a" }, index: Name { text: "l" } }, shard: 0, at: 0, copy: None, keep: false })|{"op":"deliver","index":"a/l","at":0}
 Some(Deliver { index: IndexName { cluster: Name { text: "a" }, index: Name { text: "l" } }, shard: 1, at: 9007199254740991, copy: Some(2), keep: true })|{"op":"deliver","index":"a/l","shard":1,"at":9007199254740991,"copy":2,"keep":true}
 Some(Wake { index: IndexName { cluster: Name { text: ".-_" }, index: Name { text: "0" } }, shard: 0, at: 0 })|{"op":"wake","index":".-_/0"}
@@ -88,22 +63,7 @@ Some(Create { index: IndexName { cluster: Name { text: "a" }, index: Name { text
 Some(Create { index: IndexName { cluster: Name { text: "a" }, index: Name { text: "l" } }, settings: Settings { shards: None, replicas: None, soft_deletes: None, retention: Some(9007199254740991), period: None, bad: false } })|{"op":"create","index":"a/l","settings":{"index.soft_deletes.retention.operations":9007199254740991}}
 Some(Create { index: IndexName { cluster: Name { text: "a" }, index: Name { text: "l" } }, settings: Settings { shards: None, replicas: None, soft_deletes: None, retention: None, period: None, bad: true } })|{"op":"create","index":"a/l","settings":{"index.soft_deletes.retention.operations":9007199254740992}}"#;
 
-#[test]
-fn blank_lines_are_no_commands(rt: HostRuntime) -> Result<(), Fail> {
-    assert_eq!(rt; told(rt.alloc(), b" \t ")?.as_str(), "None");
-    assert_eq!(rt; told(rt.alloc(), b"\r")?.as_str(), "NotJson");
-    Ok(())
-}
-
-#[test]
-fn absent_fields_have_their_defaults(rt: HostRuntime) -> Result<(), Fail> {
-    for case in COMMANDS.lines() {
-        assert!(rt; is_read(rt.alloc(), case)?, "{case}");
-    }
-    Ok(())
-}
-
-// The settings of a create, a bar, and what they are read as, in part.
+/// The settings of a create, a bar, and what they are read as, in part.
 const SETTINGS: &str = r#"{}|period: None, bad: false
 {"index.number_of_replicas":7}|replicas: Some(7), soft_deletes: None, retention: None, period: None, bad: false
 {"index.number_of_replicas":8}|period: None, bad: true
@@ -135,35 +95,113 @@ const SETTINGS: &str = r#"{}|period: None, bad: false
 {"index.number_of_replicas":0,"x":1}|replicas: Some(0), soft_deletes: None, retention: None, period: None, bad: true
 {"max_retry_delay":5}|period: None, bad: true"#;
 
-// Whether what is read of a create with these settings has the text behind the bar.
-fn has_settings(alloc: Global, case: &str) -> Result<bool, AllocError> {
-    let Some((settings, want)) = case.split_once('|') else {
-        return Ok(false);
-    };
-    let line = format!(in alloc;
-        "{{\"op\":\"create\",\"index\":\"a/l\",\"settings\":{settings}}}"
-    )?;
-    Ok(
-        told(alloc, line.as_str().as_bytes())?
-            .as_str()
-            .contains(want),
-    )
-}
-
-#[test]
-fn settings_out_of_range_are_marked(rt: HostRuntime) -> Result<(), Fail> {
-    for case in SETTINGS.lines() {
-        assert!(rt; has_settings(rt.alloc(), case)?, "{case}");
+/// How an outcome is printed: what was made for debugging, or the fault.
+fn text_of<T: Debug + Drop, E: Display + Drop>(
+    alloc: Global,
+    outcome: Result<T, E>,
+) -> Option<String> {
+    match outcome {
+        Ok(made) => format!(in alloc; "{made:?}").ok(),
+        Err(fault) => format!(in alloc; "{fault}").ok(),
     }
-    Ok(())
+}
+
+/// The command of a line, or why it has none.
+fn told(alloc: Global, line: &[u8]) -> Option<String> {
+    text_of(alloc, read_command(alloc, line))
+}
+
+fn is_read(alloc: Global, line: &[u8], want: &str) -> bool {
+    match told(alloc, line) {
+        Some(text) => text.as_str() == want,
+        None => false,
+    }
+}
+
+fn is_right(alloc: Global, case: &str) -> bool {
+    match case.split_once('|') {
+        Some((want, line)) => is_read(alloc, line.as_bytes(), want),
+        None => false,
+    }
+}
+
+fn has_part(text: Option<String>, want: &str) -> bool {
+    match text {
+        Some(text) => text.as_str().contains(want),
+        None => false,
+    }
+}
+
+/// Whether what is read of a create with these settings has the text behind the bar.
+fn has_settings(alloc: Global, case: &str) -> bool {
+    let Some((settings, want)) = case.split_once('|') else {
+        return false;
+    };
+    match format!(in alloc; "{{\"op\":\"create\",\"index\":\"a/l\",\"settings\":{settings}}}") {
+        Ok(line) => has_part(told(alloc, line.as_str().as_bytes()), want),
+        Err(_) => false,
+    }
+}
+
+/// The first line that is read as something else, empty where there is none.
+fn first_misread(alloc: Global, lines: &'static str) -> &'static str {
+    for line in lines.lines() {
+        if !is_right(alloc, line) {
+            return line;
+        }
+    }
+    ""
+}
+
+/// The first settings that are read as something else, empty where there are none.
+fn first_unset(alloc: Global, lines: &'static str) -> &'static str {
+    for line in lines.lines() {
+        if !has_settings(alloc, line) {
+            return line;
+        }
+    }
+    ""
 }
 
 #[test]
-fn a_seed_makes_a_script(rt: HostRuntime) -> Result<(), Fail> {
-    let commands = generate(rt.alloc(), 7, 1)?;
-    let text = format!(in rt.alloc(); "{commands:?}")?;
-    let write =
-        r#"AddCopy { index: IndexName { cluster: Name { text: "a" }, index: Name { text: "l" } }, shard: 0 }, Write { index: IndexName { cluster: Name { text: "a" }, index: Name { text: "l" } }, id: DocId { text: "d0" }, source: Body { text: "{\"n\":0,\"t\":\"w6\"}" }, create: false, expect: None, routing: None }, Settle, "#;
-    assert!(rt; text.as_str().contains(write));
-    Ok(())
+fn lines_are_read(rt: HostRuntime) {
+    assert_eq!(rt; first_misread(rt.alloc(), LINES), "");
+}
+
+#[test]
+fn settings_are_read(rt: HostRuntime) {
+    assert_eq!(rt; first_unset(rt.alloc(), SETTINGS), "");
+}
+
+#[test]
+fn bytes_that_are_no_text_are_no_json(rt: HostRuntime) {
+    let alloc = rt.alloc();
+    assert!(rt; is_read(alloc, b"\t", "None"));
+    assert!(rt; is_read(alloc, b"\r", "the line isn't JSON"));
+    assert!(rt; is_read(alloc, b"{\"op\":\"\xff\"}", "the line isn't JSON"));
+}
+
+fn is_printed(alloc: Global, fault: &impl Display, want: &str) -> bool {
+    match format!(in alloc; "{fault}") {
+        Ok(text) => text.as_str() == want,
+        Err(_) => false,
+    }
+}
+
+#[test]
+fn faults_beyond_one_line_are_printed(rt: HostRuntime) {
+    let alloc = rt.alloc();
+    assert!(rt; is_printed(alloc, &BadLine::TooLong, "the line is too long"));
+    assert!(rt; is_printed(alloc, &BadLine::TooMany, "the script has too many lines"));
+    assert!(rt; is_printed(alloc, &BadLine::Memory, "out of memory"));
+}
+
+/// A part of the script that the seed 7 makes with one write.
+const SCRIPT: &str =
+    r#"AddCopy { index: IndexName { cluster: Name { text: "a" }, index: Name { text: "l" } }, shard: 0 }, Write { index: IndexName { cluster: Name { text: "a" }, index: Name { text: "l" } }, id: DocId { text: "d0" }, source: Body { text: "{\"n\":0,\"t\":\"w6\"}" }, create: false, expect: None, routing: None }, Settle, "#;
+
+#[test]
+fn a_seed_makes_a_script(rt: HostRuntime) {
+    let text = text_of(rt.alloc(), generate(rt.alloc(), 7, 1));
+    assert!(rt; has_part(text, SCRIPT));
 }
