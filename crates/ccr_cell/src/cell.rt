@@ -10,6 +10,7 @@ use atomic_table::{Refused, Table};
 use std::alloc::{AllocError, AllocFailed, Global};
 use std::snapshot::Snapshot;
 use std::sync::Wait;
+use std::sync::atomic::{AtomicU64, Ordering};
 
 /// The share of a pass that is the only one: 2^32.
 const WHOLE: u64 = 1 << 32;
@@ -21,6 +22,8 @@ const MOST: u64 = 1 << 62;
 #[derive(Drop)]
 pub struct Cell<X: Machine> {
     table: Board<X>,
+    // how many threads wait for the machine, or are about to
+    waiting: AtomicU64,
 }
 
 impl<X: Machine> Cell<X> {
@@ -45,7 +48,10 @@ impl<X: Machine> Cell<X> {
             return Err(value);
         }
         match Table::new(alloc, &[2 * length], slots, &about) {
-            Ok((table, seat)) => Ok((Cell { table }, Ticket { seat, share: WHOLE })),
+            Ok((table, seat)) => {
+                let waiting = AtomicU64::new(0);
+                Ok((Cell { table, waiting }, Ticket { seat, share: WHOLE }))
+            }
             Err(Refused { mut slots }) => {
                 let Some(machine) = slots.pop() else {
                     unreachable!()
@@ -68,7 +74,7 @@ impl<X: Machine> Cell<X> {
         for _ in rt.forever() {
             let word = self.table.shared.peek(0);
             if word % 2 == 1 {
-                self.table.shared.park(rt, 0, (word % (1 << 32)) as u32);
+                self.wait(rt, word);
                 continue;
             }
             let found = self
@@ -80,6 +86,25 @@ impl<X: Machine> Cell<X> {
             }
         }
         unreachable!()
+    }
+
+    // Sleeps while the word is this one, until a wake. It counts itself first, so whoever changes the word afterwards
+    // sees that somebody waits. It may also return for no reason.
+    fn wait<R: Wait>(&self, rt: &R, word: u64)
+        requires { 0 < self.now.table.shared.table_id.words }
+    {
+        self.waiting.fetch_add(1, Ordering::SeqCst);
+        self.table.shared.park(rt, 0, (word % (1 << 32)) as u32);
+        self.waiting.fetch_sub(1, Ordering::SeqCst);
+    }
+
+    // Wakes a thread that waits for the machine, where one does. It asks the system only then.
+    fn wake(&self)
+        requires { 0 < self.now.table.shared.table_id.words }
+    {
+        if self.waiting.load(Ordering::SeqCst) > 0 {
+            self.table.shared.wake_one(0);
+        }
     }
 
     // Gives the machine back with one entry more, and wakes a thread that waits for it.
@@ -94,7 +119,7 @@ impl<X: Machine> Cell<X> {
         ensures added { (m : X) → seat.old.me.1 ≡ (0, m) ∷ [] → Added X.start X.journal seat.old.me seat.new.me m }
     {
         self.table.shared.store::<Add>(seat, 0, word + 2);
-        self.table.shared.wake_one(0);
+        self.wake();
     }
 
     // Gives the machine back as it was, and wakes a thread that waits for it.
@@ -108,7 +133,7 @@ impl<X: Machine> Cell<X> {
         ensures left { Left seat.old.me seat.new.me }
     {
         self.table.shared.store::<Leave>(seat, 0, word);
-        self.table.shared.wake_one(0);
+        self.wake();
     }
 
     // Steps the machine in hand, and answers the length of its journal before.
@@ -277,7 +302,7 @@ impl<X: Machine> Cell<X> {
         if pass.share != WHOLE {
             return Err((self, pass));
         }
-        let Cell { table } = self;
+        let Cell { table, .. } = self;
         let mut closed = table.close_with(pass.into_seat());
         let machine = closed.take(0);
         closed.free();

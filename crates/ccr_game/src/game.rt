@@ -20,8 +20,8 @@ pub struct Told {
     pub told: Vec<Reply>,
 }
 
-/// The names that a script has made, and the worlds that it plays in. After want of memory in a command it does no
-/// further one, since names and worlds may no longer fit.
+/// The names that a script has made, and the worlds that it plays in. After want of memory amid the names or the deeds
+/// of a command it does no further one, since names and worlds may no longer fit.
 #[derive(Drop)]
 pub struct Game<W: Worlds> {
     alloc: Global,

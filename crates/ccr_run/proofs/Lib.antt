@@ -1,5 +1,4 @@
+pub mod Completeness
 pub mod Ends
-pub mod HandedIn
-pub mod Numbers
 pub mod Sameness
 pub mod Scenes

@@ -18,7 +18,7 @@ use Rattle.ccr_game.specs.Games.{start_scene, DoesWith}
 use Rattle.ccr_playing.specs.declared.statuses.Status.{Status}
 use Rattle.ccr_playing.specs.declared.statuses.Status.TheVariants as ends
 use Rattle.ccr_worlds.specs.Fated.{Fate}
-use Rattle.ccr_run.specs.Reports.{Handed}
+use Rattle.ccr_reports.specs.Reports.{Handed}
 
 -- ---- what is done
 

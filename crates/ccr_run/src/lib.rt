@@ -3,12 +3,10 @@
 //! done, and one line sums it up.
 #![tactic(auto)]
 
-mod forms;
 mod replays;
-mod reports;
 mod samples;
 
 pub use ccr_playing::Status;
-pub use forms::Form;
+pub use ccr_reports::Report;
+pub use ccr_words::Form;
 pub use replays::replay;
-pub use reports::Report;

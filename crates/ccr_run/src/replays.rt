@@ -2,20 +2,21 @@
 ghost use Rattle.std.specs.Prelude.{ℕ, ◌≡◌, ◌≢◌, ◌↔◌, ◌-◌, ◌<◌, ◌^◌, [], None, Some, map, slice_get, string_bytes};
 ghost use Rattle.ccr_model.specs.Policies.{picks_of};
 ghost use Rattle.ccr_script.specs.Generated.{generated};
-ghost use Rattle.ccr_playing.specs.Tells.{AreTold};
+ghost use Rattle.ccr_playing.specs.Tells.{AreQuiet, AreTold};
 ghost use Rattle.ccr_worlds.specs.Fated.{AreLeft};
-ghost use Rattle.ccr_run.specs.Forms.{form_of as form_of_words};
-ghost use Rattle.ccr_run.specs.Reports.{Reported};
+ghost use Rattle.ccr_words.specs.Forms.{form_of as form_of_words};
+ghost use Rattle.ccr_reports.specs.Faultless.{EndsWell, IsFaultless};
+ghost use Rattle.ccr_reports.specs.Reports.{Reported};
 ghost use Rattle.ccr_run.specs.Samples.{Sampled};
 
-use crate::forms::{Form, form_of};
-use crate::reports::Report;
 use crate::samples::sample_in;
 use ccr_game::Game;
 use ccr_io::{Sink, Source};
 use ccr_playing::{Status, play};
 use ccr_policy::MergePolicy;
+use ccr_reports::Report;
 use ccr_shard_world::Chooser;
+use ccr_words::{Form, form_of};
 use ccr_worlds::{Bare, Handed};
 use std::alloc::Global;
 use std::marker::Brand;
@@ -65,7 +66,7 @@ fn replay_in<P: Chooser, S: Source, O: Sink>(
 ///
 /// A replay takes memory by what its commands keep, and not by its script; the work goes with the bytes of the script
 /// and with what its commands read and move. A sample keeps its whole script.
-#[tactic(auto, using(crate::proofs::HandedIn::is_no_usage))]
+#[tactic(auto, using(crate::proofs::Completeness::ending))]
 pub fn replay<S: Source, K: Sink>(
     alloc: Global,
     words: &Vec<String>,
@@ -96,6 +97,10 @@ pub fn replay<S: Source, K: Sink>(
         result.journals.items (K.taken out.old) (K.taken out.new) }
     ensures sample_unread { (seed writes : ℕ) → form_of_words (map string_bytes words.now.items) ≡ Some (Form.Sample seed writes) →
         S.left script.new ≡ S.left script.old }
+
+    // What the words ask for is done to its end, where nothing fails, memory suffices, and no line of a script that is read is bad.
+    ensures complete { result.status ≢ Status.Usage → (form_of_words (map string_bytes words.now.items) ≡ Some Form.Replay → IsFaultless (S.left script.old))
+        → AreQuiet (S.faults script.old) (S.faults script.new) (K.faults out.old) (K.faults out.new) → EndsWell result.status }
 {
     match form_of(words.as_slice()) {
         None => Report {

@@ -10,7 +10,6 @@ ghost use Rattle.ccr_playing.specs.Tells.{AreTold};
 ghost use Rattle.ccr_worlds.specs.Fated.{AreLeft};
 ghost use Rattle.ccr_run.specs.Samples.{AreBegun, AreDone, EndInSearches, EndsFinding, EndsInSearch, Finds, HasSummary, IsDone, Sampled, Sums, SumsUp, found_by as found_in, is_change as is_change_of, is_delete as is_delete_of, same_found, same_hit as is_same_hit, same_hits as are_same_hits, summary_text, yes_or_no as yes_or_no_of};
 
-use crate::reports::Report;
 use ccr_answers::{Answer, found};
 use ccr_deeds::Settles;
 use ccr_game::{Game, Told};
@@ -19,6 +18,7 @@ use ccr_op::DocId;
 use ccr_plans::is_settle;
 use ccr_playing::Status;
 use ccr_query::Hit;
+use ccr_reports::Report;
 use ccr_script::{Command, generate};
 use ccr_search::Answer as SearchAnswer;
 use ccr_shard_world::Chooser;

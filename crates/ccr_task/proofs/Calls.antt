@@ -1,19 +1,17 @@
 -- What is found of reads and writes, and what a loss and an end come to.
-use Rattle.std.proofs.Common.{◌≡◌, ℕ, ◌+◌, ◌==◌, ◌&&◌, Bool, true, false, if◌then◌else◌, List, [], ◌∷◌, ◌++◌, map, filter_map, Option, Some, None, Result, Ok, Err, find, refl, sym, ◌∙◌, ap, subst}
+use Rattle.std.proofs.Common.{◌≡◌, ℕ, ◌+◌, ◌==◌, ◌&&◌, Bool, true, false, if◌then◌else◌, List, [], ◌∷◌, ◌++◌, map, Option, Some, None, Ok, Err, refl, sym, ◌∙◌, ap}
 use Rattle.std.specs.Option.{MatchOption, is_some, option_map}
-use Rattle.std.specs.Result.{IsOk}
 use Rattle.std.specs.List.{AllByRecursion}
 use Rattle.std.proofs.lemmas.Bool.{and_parts, eqb-true}
 use Rattle.ccr_wire.specs.Message.{Frame}
 use Rattle.ccr_law_base.proofs.Lists.{All-find}
 use Rattle.ccr_model.specs.Followers.{replicating}
 use Rattle.ccr_model.specs.Requests.{Progress, is_sent}
-use Rattle.ccr_model.specs.Settling.{time_of, least_of, waits_until}
+use Rattle.ccr_model.specs.Settling.{waits_until}
 use Rattle.ccr_model.specs.Tasks.{Task, Read, Write, changed_read, changed_write, may_read, read_lost, write_lost, write_sent, write_ended, waits_after}
 use Rattle.ccr_task.specs.Does.{Did}
 use Rattle.ccr_task.specs.Ends.{EndsWrite}
 use Rattle.ccr_task.specs.Ordering.{earlier}
-use Rattle.ccr_task.specs.declared.task.TaskFault.{TaskFault}
 use Rattle.ccr_task.specs.declared.task.TaskFault.TheVariants as faults
 use Rattle.ccr_task.proofs.Times.{least_time, least-time_both, earlier-none}
 

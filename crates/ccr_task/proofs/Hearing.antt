@@ -1,5 +1,5 @@
 -- A reply to a read that was sent.
-use Rattle.std.proofs.Common.{◌≡◌, ℕ, List, [], Option, Some, None, refl, sym, ap, subst}
+use Rattle.std.proofs.Common.{◌≡◌, ℕ, List, [], Option, Some, sym, ap, subst}
 use Rattle.ccr_wire.specs.Message.{Frame}
 use Rattle.ccr_op.specs.Operation.{Operation}
 use Rattle.ccr_wire.specs.declared.content.Content.{Content}

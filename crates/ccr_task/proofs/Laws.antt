@@ -1,17 +1,15 @@
 -- What is kept over a task's calls, by the laws of its functions.
-use Rattle.std.proofs.Common.{◌≡◌, ℕ, ◌+◌, ◌-◌, ◌*◌, ◌≤◌, length, List, [], ◌∷◌, ◌++◌, Option, Some, None, Result, Ok, Err, refl, sym, ◌∙◌, ap, subst, arith}
+use Rattle.std.proofs.Common.{◌≡◌, ℕ, length, List, [], ◌∷◌, ◌++◌, Option, Some, None, Result, Ok, Err, refl, sym, subst}
 use Rattle.ccr_wire.specs.Message.{Frame}
 use Rattle.ccr_wire.specs.declared.content.Content.{Content}
 use Rattle.ccr_wire.specs.declared.content.Content.TheVariants as contents
 use Rattle.ccr_journal.specs.Params.{AreInRange}
 use Rattle.ccr_journal.specs.declared.params.ParamValues.{ParamValues}
 use Rattle.ccr_journal.specs.declared.sides.Phase.TheVariants as phases
-use Rattle.ccr_model.specs.Requests.{Sending}
 use Rattle.ccr_model.specs.Tasks.{Task, Read, Write, read_sent, write_sent, started, stopped, after_reply, filled_if_active, write_ended, ticked, bytes_of}
 use Rattle.ccr_model.specs.Past.{Line, WrittenBatch}
-use Rattle.ccr_model.specs.TaskFacts.{written_in, IsBounded}
+use Rattle.ccr_model.specs.TaskFacts.{IsBounded}
 use Rattle.ccr_law_tasks.specs.GoodTask.{IsGoodTask}
-use Rattle.ccr_law_tasks.specs.TaskLaws.{IsAsStated}
 use Rattle.ccr_law_tasks.proofs.Calls.{started-good, reply-good, ticked-good, write_ended-good, stopped-good, calm-good}
 use Rattle.ccr_law_tasks.proofs.TaskSays.{says-true, says-bounded, says-once}
 use Rattle.ccr_task.specs.declared.task.Taken.{Taken}
@@ -20,7 +18,7 @@ use Rattle.ccr_task.specs.Takes.{Takes}
 use Rattle.ccr_task.specs.Ends.{EndsWrite}
 use Rattle.ccr_task.specs.declared.task.TaskFault.{TaskFault}
 use Rattle.std.specs.Result.{OnOk}
-use Rattle.ccr_task.specs.Keeps.{IsWell, StartsWell, StaysWell, IsTrueAnswer, HearsWell, EndsWell, LoadsWell}
+use Rattle.ccr_task.specs.Keeps.{IsWell, StartsWell, StaysWell, HearsWell, EndsWell, LoadsWell}
 
 well : (line : Line) (t : Task) (begun_at : ℕ) (written : List WrittenBatch) → IsGoodTask line t begun_at written → IsWell line t begun_at written
 well line t begun_at written good = record {

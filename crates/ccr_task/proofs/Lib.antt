@@ -1,3 +1,7 @@
+pub mod Counts
+pub mod Rising
+pub mod Indexing
+pub mod Changes
 pub mod Matches
 pub mod Sending
 pub mod Places
@@ -7,3 +11,6 @@ pub mod Hearing
 pub mod Saturation
 pub mod Resting
 pub mod Calls
+pub mod Froms
+pub mod Soonest
+pub mod Keeping

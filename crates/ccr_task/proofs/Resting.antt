@@ -1,5 +1,5 @@
 -- What a reply leaves to its read.
-use Rattle.std.proofs.Common.{◌≡◌, ℕ, ◌-◌, Bool, true, false, nat_lt, if◌then◌else◌, List, Option, Some, None, refl, sym, ◌∙◌, ap, subst}
+use Rattle.std.proofs.Common.{◌≡◌, ℕ, ◌-◌, Bool, true, false, nat_lt, if◌then◌else◌, List, Option, Some, None, refl, sym, ◌∙◌, ap}
 use Rattle.ccr_op.specs.Operation.{Operation}
 use Rattle.ccr_model.specs.Requests.{held_back}
 use Rattle.ccr_model.specs.Tasks.{Read, changed_read, without_read, rest_from, reads_after}

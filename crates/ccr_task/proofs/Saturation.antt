@@ -1,8 +1,7 @@
 -- Nothing is left undone, as tests tell.
-use Rattle.std.proofs.Common.{◌≡◌, ◌⊎◌, ℕ, ◌≤◌, ◌<◌, suc, ◌==◌, Bool, true, false, not, ◌&&◌, ◌||◌, nat_lt, nat_le, List, [], ◌∷◌, length, inl, inr, refl, sym, ◌∙◌, ap, arith}
+use Rattle.std.proofs.Common.{◌≡◌, ◌≤◌, ◌<◌, suc, ◌==◌, Bool, true, false, not, ◌&&◌, ◌||◌, nat_lt, nat_le, List, [], ◌∷◌, length, inl, inr, refl, ap, arith}
 use Rattle.std.specs.List.{AllByRecursion, list_any}
-use Rattle.std.proofs.lemmas.Bool.{both_ways, and_parts, and_from, or_cases, or_parts, or_from, or_left, or_right, not-true, not_from_false, leb-true, le-leb, eqb-true, eq-eqb, ltb-true, lt-ltb, cases_Bool}
-use Rattle.std.proofs.lemmas.Bool.Decides.{nat_tests}
+use Rattle.std.proofs.lemmas.Bool.{both_ways, and_parts, and_from, or_cases, or_parts, or_from, or_left, or_right, not-true, not_from_false, leb-true, le-leb, eqb-true, eq-eqb, ltb-true, lt-ltb}
 use Rattle.ccr_op.specs.Operation.{Operation}
 use Rattle.ccr_model.specs.Tasks.{Task, Read, may_read, has_budget, is_held}
 use Rattle.ccr_model.specs.TaskFacts.{IsSaturated}

@@ -4,3 +4,5 @@ pub mod Ordering
 pub mod Takes
 pub mod Ends
 pub mod Keeps
+pub mod Indexed
+pub mod Reading

@@ -1,5 +1,5 @@
 -- What a task makes of a message.
-use Rattle.std.specs.Prelude.{◌≡◌, Option, Some, None, []}
+use Rattle.std.specs.Prelude.{◌≡◌, Option, Some, None}
 use Rattle.ccr_wire.specs.declared.content.Content.{Content}
 use Rattle.ccr_wire.specs.declared.content.Content.TheVariants as contents
 use Rattle.ccr_journal.specs.declared.sides.Phase.TheVariants as phases

@@ -6,7 +6,6 @@ ghost use Rattle.ccr_wire.specs.declared.content.Content.TheVariants.{ReadReques
 ghost use Rattle.ccr_model.specs.Tasks.{all_sent_again, due_reads_sent, fill, fill_held, fill_peek, fill_reads, fill_writes, filled_if_active, has_budget, is_active, may_read, next_read, read_frame, sent_again, with_batch, with_read};
 ghost use Rattle.ccr_task.specs.Does.{Did};
 
-use crate::lists::{due_reads, held_reads, renumber};
 use crate::{Read, Task, Write};
 use ccr_journal::Phase;
 use ccr_op::{Batch, Count, Millis};
@@ -65,13 +64,9 @@ impl Task {
     ) -> Result<(), AllocError>
         ensures { OnOk result (Did self.new sent.old sent.new (with_read self.old from to asked)) }
     {
-        let request = self.next_request;
-        let Some(next_request) = request.checked_add(1) else {
-            return Err(AllocError);
-        };
+        let request = self.reads.next_request();
         sent.push(self.request_of(request, from, asked))?;
-        self.reads.push(Read::new(request, from, to, asked))?;
-        self.next_request = next_request;
+        self.reads.begin(from, to, asked)?;
         self.next = to;
         Ok(())
     }
@@ -80,13 +75,9 @@ impl Task {
     fn send_again(&mut self, read: &Read, sent: &mut Messages) -> Result<(), AllocError>
         ensures { OnOk result (Did self.new sent.old sent.new (sent_again self.old read.now)) }
     {
-        let request = self.next_request;
-        let Some(next_request) = request.checked_add(1) else {
-            return Err(AllocError);
-        };
+        let request = self.reads.next_request();
         sent.push(self.request_of(request, read.from(), read.asked()))?;
-        renumber(&mut self.reads, read.request(), request);
-        self.next_request = next_request;
+        self.reads.send_again(read)?;
         Ok(())
     }
 
@@ -112,8 +103,10 @@ impl Task {
         if !self.may_read() {
             return Ok(());
         }
-        let due = due_reads(alloc, self.reads.as_slice(), now)?;
-        self.send_all_again(due.as_slice(), sent)
+        let due = self.reads.due_reads(alloc, now)?;
+        self.send_all_again(due.as_slice(), sent)?;
+        self.reads.refresh();
+        Ok(())
     }
 
     // ---- writes
@@ -163,7 +156,7 @@ impl Task {
         if !self.may_read() {
             return Ok(());
         }
-        let held = held_reads(alloc, self.reads.as_slice())?;
+        let held = self.reads.held_reads(alloc)?;
         self.send_all_again(held.as_slice(), sent)
     }
 

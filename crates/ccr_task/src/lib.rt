@@ -6,6 +6,7 @@
 mod filling;
 mod lists;
 mod operations;
+mod reading;
 mod reads;
 mod task;
 mod writes;

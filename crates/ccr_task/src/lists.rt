@@ -5,7 +5,7 @@ ghost use Rattle.std.specs.Option.{option_map};
 ghost use Rattle.ccr_model.specs.Requests.{on_its_way, waiting, held_back, is_due, is_sent};
 ghost use Rattle.ccr_model.specs.Settling.{time_of, least_of};
 ghost use Rattle.ccr_model.specs.Tasks.{Read as Asked, Write as Outstanding, changed_read, changed_write, without_read, without_write, in_order_of_request, is_held, least_from, reads_after, rest_from};
-ghost use Rattle.ccr_task.specs.Ordering.{earlier, is_at_place, place_after, sent_below, sent_under};
+ghost use Rattle.ccr_task.specs.Ordering.{earlier, place_after};
 
 use crate::operations::count_below;
 use crate::{Read, Write};
@@ -14,8 +14,30 @@ use std::alloc::{AllocError, Global};
 
 // ---- reads
 
+/// The place of the read of this request number. Its end tells where to look for it: where that is so, the cost is that
+/// of a search by halves.
+pub(crate) fn place_of_read(reads: &[Read], request: u64, end: Count) -> Option<usize>
+    requires { length (filter (λ (r : Asked). r.request == request) reads.now) ≤ 1 }
+    ensures place { result ≡ position_from (λ (r : Asked). r.request == request) 0 reads.now }
+    ensures within { IfSome result (λ place. place < length reads.now) }
+{
+    let place = place_of_end(reads, end);
+    if place < reads.len() && reads[place].request() == request {
+        return Some(place);
+    }
+    first_of_request(reads, request)
+}
+
+/// A place of a read with this end, among reads whose ends rise.
+fn place_of_end(reads: &[Read], end: Count) -> usize {
+    match reads.binary_search_by_key(&end, |read| read.to()) {
+        Ok(place) => place,
+        Err(place) => place,
+    }
+}
+
 /// The place of the first read of this request number.
-fn place_of_read(reads: &[Read], request: u64) -> Option<usize>
+fn first_of_request(reads: &[Read], request: u64) -> Option<usize>
     ensures place { result ≡ position_from (λ (r : Asked). r.request == request) 0 reads.now }
     ensures within { IfSome result (λ place. place < length reads.now) }
 {
@@ -27,103 +49,34 @@ fn place_of_read(reads: &[Read], request: u64) -> Option<usize>
     None
 }
 
-/// The read that was sent under this request number.
-pub(crate) fn sent_read(reads: &[Read], request: u64) -> Option<Read>
-    ensures { result ≡ find (λ (r : Asked). (r.request == request) && is_sent r.progress) reads.now }
-{
-    for read in reads {
-        if read.request() == request && read.is_sent() {
-            return Some(read.copy());
-        }
-    }
-    None
-}
-
-/// The read of this request number is sent again, under another.
-pub(crate) fn renumber(reads: &mut Vec<Read>, request: u64, anew: u64)
-    ensures { reads.new.items ≡ changed_read request (λ own. record own { request = anew; progress = on_its_way }) reads.old.items }
-{
-    let Some(place) = place_of_read(reads.as_slice(), request) else {
-        return;
-    };
-    reads[place].send_again(anew);
-}
-
-/// The read of this request number waits until a time.
-pub(crate) fn delay_read(reads: &mut Vec<Read>, request: u64, until: Millis)
-    ensures { reads.new.items ≡ changed_read request (λ own. record own { progress = waiting until }) reads.old.items }
-{
-    let Some(place) = place_of_read(reads.as_slice(), request) else {
-        return;
-    };
-    reads[place].wait(until);
-}
-
-/// The read of this request number is held for what is left.
-fn hold_read(reads: &mut Vec<Read>, request: u64, from: Count, asked: u64)
-    ensures { reads.new.items ≡ changed_read request (λ own. record own { from = from; asked = asked; progress = held_back }) reads.old.items }
-{
-    let Some(place) = place_of_read(reads.as_slice(), request) else {
-        return;
-    };
-    reads[place].hold(from, asked);
-}
-
-/// The read of this request number is over.
-fn end_read(reads: &mut Vec<Read>, request: u64)
-    ensures { reads.new.items ≡ without_read request reads.old.items }
-{
-    let Some(place) = place_of_read(reads.as_slice(), request) else {
-        return;
-    };
-    reads.remove(place);
-}
-
 /// The first number that these operations leave to be read, where one is left.
-fn rest_of(read: &Read, ops: &[Op]) -> Option<Count>
+pub(crate) fn rest_of(read: &Read, ops: &[Op]) -> Option<Count>
     ensures { result ≡ (if nat_lt (rest_from read.now ops.now) read.now.to then Some (rest_from read.now ops.now) else None) }
 {
     let from = read.from().saturating_add(count_below(ops, read.to()));
     if from < read.to() { Some(from) } else { None }
 }
 
-/// After these operations a read is held for what is left below its end, and ends where nothing is.
-pub(crate) fn take_from(reads: &mut Vec<Read>, read: &Read, ops: &[Op])
-    ensures { reads.new.items ≡ reads_after read.now ops.now reads.old.items }
-{
-    let request = read.request();
-    let Some(from) = rest_of(read, ops) else {
-        end_read(reads, request);
-        return;
-    };
-    let asked = read.to().saturating_sub(from);
-    hold_read(reads, request, from, asked);
-}
-
-/// The reads that are held, in their order.
-pub(crate) fn held_reads(alloc: Global, reads: &[Read]) -> Result<Vec<Read>, AllocError>
+/// The reads that are held, in their order: there are so many. The cost goes with the place of the last one.
+pub(crate) fn held_reads(
+    alloc: Global,
+    reads: &[Read],
+    count: usize,
+) -> Result<Vec<Read>, AllocError>
+    requires { count ≡ length (filter is_held reads.now) }
     ensures { IfOk result (λ held. held.items ≡ filter is_held reads.now) }
 {
     let mut held = Vec::new(alloc);
     for read in reads {
+        if held.as_slice().len() == count {
+            return Ok(held);
+        }
         if !read.is_held() {
             continue;
         }
         held.push(read.copy())?;
     }
     Ok(held)
-}
-
-/// Whether a read is held.
-pub(crate) fn has_held(reads: &[Read]) -> bool
-    ensures { result ≡ list_any is_held reads.now }
-{
-    for read in reads {
-        if read.is_held() {
-            return true;
-        }
-    }
-    false
 }
 
 /// The place of the first read of a greater request number, or the end.
@@ -156,62 +109,6 @@ pub(crate) fn due_reads(alloc: Global, reads: &[Read], now: Millis) -> Result<Ve
     Ok(due)
 }
 
-/// How many sent reads have a lower request number.
-fn sent_below(reads: &[Read], request: u64) -> usize
-    ensures { result ≡ sent_below request reads.now }
-{
-    let mut below = 0;
-    for read in reads {
-        if !read.is_sent() || read.request() >= request {
-            continue;
-        }
-        below += 1;
-    }
-    below
-}
-
-/// How many sent reads have this request number.
-fn sent_under(reads: &[Read], request: u64) -> usize
-    ensures { result ≡ sent_under request reads.now }
-{
-    let mut under = 0;
-    for read in reads {
-        if !read.is_sent() || read.request() != request {
-            continue;
-        }
-        under += 1;
-    }
-    under
-}
-
-/// Whether a request number stands at this place among those of the sent reads, in ascending order.
-fn is_at(reads: &[Read], request: u64, at: usize) -> bool
-    ensures { result ≡ is_at_place reads.now at request }
-{
-    let below = sent_below(reads, request);
-    below <= at && at - below < sent_under(reads, request)
-}
-
-/// The request number at this place among those of the sent reads, in ascending order. It takes no memory, and costs
-/// the square of how many reads there are.
-pub(crate) fn request_at(reads: &[Read], at: usize) -> Option<u64>
-    ensures { result ≡ option_map (λ (r : Asked). r.request) (slice_get (in_order_of_request (filter (λ (r : Asked). is_sent r.progress) reads.now)) at) }
-{
-    first_at(reads, at)
-}
-
-/// The request number of the first sent read whose number stands at this place among them.
-fn first_at(reads: &[Read], at: usize) -> Option<u64>
-    ensures { result ≡ option_map (λ (r : Asked). r.request) (find (λ (r : Asked). is_sent r.progress && is_at_place reads.now at r.request) reads.now) }
-{
-    for read in reads {
-        if read.is_sent() && is_at(reads, read.request(), at) {
-            return Some(read.request());
-        }
-    }
-    None
-}
-
 /// The least number that a read is for, and `next` where there is no read.
 pub(crate) fn least_of_reads(reads: &[Read], next: Count) -> Count
     ensures { result ≡ least_from next reads.now }
@@ -238,7 +135,7 @@ pub(crate) fn reads_wait_until(reads: &[Read], other: Option<Millis>) -> Option<
 }
 
 /// The earlier of two times, of which any may be missing.
-fn earlier_of(a: Option<Millis>, b: Option<Millis>) -> Option<Millis>
+pub(crate) fn earlier_of(a: Option<Millis>, b: Option<Millis>) -> Option<Millis>
     ensures { result ≡ earlier a b }
 {
     match (a, b) {

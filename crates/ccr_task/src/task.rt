@@ -14,11 +14,9 @@ ghost use Rattle.ccr_task.specs.Ends.{EndsWrite};
 ghost use Rattle.ccr_task.specs.Keeps.{EndsWell, HearsWell, LoadsWell, StartsWell, StaysWell};
 
 use crate::filling::is_active;
-use crate::lists::{
-    delay_read, delay_write, end_write, has_held, least_of_reads, reads_wait_until, request_at,
-    send_due_writes, sent_read, sent_write, take_from, writes_wait_until,
-};
+use crate::lists::{delay_write, end_write, send_due_writes, sent_write, writes_wait_until};
 use crate::operations::{kept, next_after};
+use crate::reading::Reading;
 use crate::{Read, Write};
 use ccr_buffer::Buffer;
 use ccr_journal::{Params, Phase};
@@ -83,11 +81,10 @@ pub struct Task {
     pub(crate) follower: Uuid,
     pub(crate) phase: Phase,
     pub(crate) epoch: u64,
-    pub(crate) next_request: u64,
     pub(crate) retry: u64,
     pub(crate) next: Count,
     pub(crate) known: Count,
-    pub(crate) reads: Vec<Read>,
+    pub(crate) reads: Reading,
     pub(crate) buffer: Buffer,
     pub(crate) next_write: u64,
     pub(crate) writes: Vec<Write>,
@@ -105,11 +102,11 @@ impl Model for Task {
       follower = a.follower;
       phase = a.phase;
       epoch = a.epoch;
-      next_request = a.next_request;
+      next_request = a.reads.next_request;
       retry = a.retry;
       next = a.next;
       known = a.known;
-      reads = a.reads.items;
+      reads = a.reads.reads;
       buffer = a.buffer;
       next_write = a.next_write;
       writes = a.writes.items;
@@ -156,11 +153,10 @@ impl Task {
             follower,
             phase,
             epoch: 0,
-            next_request: request,
             retry: 0,
             next: 0,
             known: 0,
-            reads: Vec::new(alloc),
+            reads: Reading::new(alloc, request),
             buffer: Buffer::new(alloc),
             next_write: 0,
             writes: Vec::new(alloc),
@@ -186,11 +182,10 @@ impl Task {
             follower,
             phase: Phase::Active,
             epoch,
-            next_request: request,
             retry: 0,
             next: count,
             known: count,
-            reads: Vec::new(alloc),
+            reads: Reading::new(alloc, request),
             buffer: Buffer::new(alloc),
             next_write: 0,
             writes: Vec::new(alloc),
@@ -201,7 +196,9 @@ impl Task {
         Ok((task, sent))
     }
 
-    /// A message comes. An answer to a read that was sent is taken; any other message is ignored.
+    /// A message comes. An answer to a read that was sent is taken; any other message is ignored. The cost goes with the
+    /// operations that it brings and with what is sent, and but for a move of the reads behind one that ends, by no more
+    /// than a logarithm with the reads.
     pub fn on_reply(&mut self, alloc: Global, reply: Message) -> Result<Taken, AllocError>
         ensures takes { IfOk result (λ taken. Takes self.old reply.content (read_sent self.old reply.request) taken self.new) }
         ensures well { OnOk result (HearsWell self.old reply.request reply.content self.new) }
@@ -243,7 +240,7 @@ impl Task {
     fn find_sent(&self, request: u64) -> Option<Read>
         ensures { result ≡ read_sent self.now request }
     {
-        sent_read(self.reads.as_slice(), request)
+        self.reads.find_sent(request)
     }
 
     /// Whether memory ran out before.
@@ -295,7 +292,7 @@ impl Task {
     {
         let is_last = self.next == read.to();
         let next = next_after(ops.as_slice(), self.next, is_last)?;
-        take_from(&mut self.reads, read, ops.as_slice());
+        self.reads.take(read, ops.as_slice());
         let kept = kept(alloc, ops, is_last, read.to())?;
         self.buffer.add_all(kept)?;
         self.retry = 0;
@@ -366,7 +363,7 @@ impl Task {
     {
         self.retry += 1;
         let until = self.delay_until(now);
-        delay_read(&mut self.reads, request, until);
+        self.reads.delay(request, until);
     }
 
     /// The write of this number waits for a retry.
@@ -386,7 +383,8 @@ impl Task {
         sent_write(self.writes.as_slice(), write).is_some()
     }
 
-    /// The request at this place among the sent ones, in ascending number, is lost and waits for a retry.
+    /// The request at this place among the sent ones, in ascending number, is lost and waits for a retry. It takes no
+    /// memory. The cost is that of a search by halves, and of a move of the numbers behind it.
     pub fn lose(&mut self, at: usize, now: Millis) -> Result<(), TaskFault>
         requires room { self.old.retry + 1 < 2 ^ 64 }
         ensures { MatchOption (slice_get (sent_reads self.old) at)
@@ -415,7 +413,8 @@ impl Task {
     }
 
     /// What is due is sent again: reads while the buffer is below its bounds, and writes. Then an active task does
-    /// all that it may do.
+    /// all that it may do. The cost goes with how many reads and writes are outstanding, and with the square of how many
+    /// reads are due at once.
     pub fn tick(&mut self, alloc: Global, now: Millis) -> Result<Messages, AllocError>
         ensures sends { IfOk result (λ sent. Did self.new [] sent (ticked now self.old)) }
         ensures well { OnOk result (StaysWell self.old self.new) }
@@ -480,9 +479,7 @@ impl Task {
         ensures value { result ≡ self.old.next_request }
         ensures raised { self.new ≡ record self.old { next_request = self.old.next_request + 1 } }
     {
-        let request = self.next_request;
-        self.next_request += 1;
-        request
+        self.reads.draw()
     }
 
     // ---- what it has
@@ -513,14 +510,14 @@ impl Task {
         }
     }
 
-    /// The least number that it asks for or will ask for. `None` where it reads no more.
+    /// The least number that it asks for or will ask for. `None` where it reads no more. No scan is needed.
     pub fn least_asked(&self) -> Option<Count>
         ensures { result ≡ (if is_active self.now.phase then Some (least_from self.now.next self.now.reads) else None) }
     {
         if !is_active(self.phase) {
             return None;
         }
-        Some(least_of_reads(self.reads.as_slice(), self.next))
+        Some(self.reads.least(self.next))
     }
 
     /// Whether nothing that may be done is left undone.
@@ -548,7 +545,7 @@ impl Task {
     fn sends_all(&self) -> bool
         ensures { result ≡ (not (may_read self.now) || not (list_any is_held self.now.reads)) }
     {
-        !self.may_read() || !has_held(self.reads.as_slice())
+        !self.may_read() || !self.reads.has_held()
     }
 
     /// No read may be begun, or what is known was asked for and a read is outstanding.
@@ -578,11 +575,11 @@ impl Task {
         }
     }
 
-    /// The request number at this place among the sent ones, in ascending order.
+    /// The request number at this place among the sent ones, in ascending order. It is an index.
     pub fn sent_at(&self, at: usize) -> Option<u64>
         ensures { result ≡ option_map (λ (r : Asked). r.request) (slice_get (sent_reads self.now) at) }
     {
-        request_at(self.reads.as_slice(), at)
+        self.reads.sent_at(at)
     }
 
     /// The number at this place among the outstanding writes, in ascending order.
@@ -595,7 +592,8 @@ impl Task {
         }
     }
 
-    /// The least time until which something waits. Reads that may not be sent for the buffer's bounds don't count.
+    /// The least time until which something waits. Reads that may not be sent for the buffer's bounds don't count. The
+    /// cost goes with how many writes are outstanding.
     pub fn waits_until(&self) -> Option<Millis>
         ensures { result ≡ waits_until (replicating self.now) }
     {
@@ -617,7 +615,7 @@ impl Task {
     fn reads_wait(&self, other: Option<Millis>) -> Option<Millis>
         ensures { result ≡ earlier (least_of (filter_map time_of (map (λ (r : Asked). r.progress) self.now.reads))) other }
     {
-        reads_wait_until(self.reads.as_slice(), other)
+        self.reads.wait_until(other)
     }
 
     /// The leader's history that it reads.
@@ -666,6 +664,6 @@ impl Task {
     pub fn next_request(&self) -> u64
         ensures { result ≡ self.now.next_request }
     {
-        self.next_request
+        self.reads.next_request()
     }
 }

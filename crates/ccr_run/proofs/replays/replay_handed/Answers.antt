@@ -1,4 +1,4 @@
-use Rattle.ccr_run.proofs.Scenes.{handed_out, reported}
+use Rattle.ccr_reports.proofs.Scenes.{handed_out, reported}
 use Rattle.ccr_run.proofs.replays.replay_handed.Goals as goal
 
 pub returns-clause-report : goal.returns-clause-report

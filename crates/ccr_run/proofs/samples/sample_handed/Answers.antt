@@ -1,5 +1,6 @@
 use Rattle.ccr_script.specs.Generated.{generated}
-use Rattle.ccr_run.proofs.Scenes.{handed_out, sampled}
+use Rattle.ccr_reports.proofs.Scenes.{handed_out}
+use Rattle.ccr_run.proofs.Scenes.{sampled}
 use Rattle.ccr_run.proofs.samples.sample_handed.Goals as goal
 
 pub returns-clause-report : goal.returns-clause-report

@@ -1,6 +1,6 @@
-use Rattle.std.proofs.Common.{◌≡◌, ◌==◌, List, set, sym, ◌∙◌, ap}
+use Rattle.std.proofs.Common.{◌==◌, List, set, sym, ◌∙◌, ap}
 use Rattle.std.specs.List.{position_from}
-use Rattle.ccr_model.specs.Requests.{on_its_way, waiting, held_back}
+use Rattle.ccr_model.specs.Requests.{waiting}
 use Rattle.ccr_model.specs.Tasks.{Write}
 use Rattle.ccr_task.proofs.Matches.{write-unchanged, write-changed}
 use Rattle.ccr_task.proofs.lists.delay_write.Goals as goal

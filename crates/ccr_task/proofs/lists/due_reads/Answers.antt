@@ -1,7 +1,5 @@
-use Rattle.std.proofs.Common.{◌≡◌, ℕ, ◌+◌, ◌-◌, suc, List, ◌∷◌, ◌++◌, drop, drop-cons, filter, length, min, map, filter_map, sym, ◌∙◌, ap, subst, arith}
-use Rattle.std.specs.List.{fold, insert}
-use Rattle.ccr_model.specs.Requests.{is_due}
-use Rattle.ccr_model.specs.Tasks.{Read, by_request, in_order_of_request}
+use Rattle.std.proofs.Common.{◌≡◌, ℕ, ◌+◌, suc, List, ◌∷◌, drop, drop-cons, sym, ◌∙◌, ap, arith}
+use Rattle.ccr_model.specs.Tasks.{Read}
 use Rattle.ccr_task.specs.Ordering.{place_after}
 use Rattle.ccr_task.proofs.Matches.{due-turn}
 use Rattle.ccr_task.proofs.lists.due_reads.Goals as goal

@@ -1,4 +1,4 @@
-use Rattle.std.proofs.Common.{◌≡◌, ◌==◌, List, sym, ◌∙◌, ap}
+use Rattle.std.proofs.Common.{◌==◌, List, sym, ◌∙◌, ap}
 use Rattle.std.specs.List.{position_from}
 use Rattle.ccr_model.specs.Tasks.{Write}
 use Rattle.ccr_task.proofs.Matches.{write-unremoved, write-removed}

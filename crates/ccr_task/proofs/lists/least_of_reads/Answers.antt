@@ -1,4 +1,4 @@
-use Rattle.std.proofs.Common.{◌≡◌, ℕ, ◌+◌, ◌-◌, suc, List, ◌∷◌, ◌++◌, drop, drop-cons, filter, length, min, map, filter_map, sym, ◌∙◌, ap, subst, arith}
+use Rattle.std.proofs.Common.{◌≡◌, ℕ, ◌+◌, suc, List, ◌∷◌, drop, drop-cons, min, sym, ◌∙◌, ap, arith}
 use Rattle.ccr_model.specs.Tasks.{Read, least_from}
 use Rattle.ccr_task.proofs.Times.{least-turn}
 use Rattle.ccr_task.proofs.lists.least_of_reads.Goals as goal

@@ -1,4 +1,3 @@
-use Rattle.std.proofs.Common.{◌+◌, suc, ◌≡◌}
 use Rattle.ccr_task.proofs.Matches.{sent_if_due, mapped-turn}
 use Rattle.ccr_task.proofs.lists.send_due_writes.Goals as goal
 

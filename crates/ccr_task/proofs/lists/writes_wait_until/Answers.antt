@@ -1,4 +1,4 @@
-use Rattle.std.proofs.Common.{◌≡◌, ℕ, ◌+◌, ◌-◌, suc, List, ◌∷◌, ◌++◌, drop, drop-cons, filter, length, min, map, filter_map, sym, ◌∙◌, ap, subst, arith}
+use Rattle.std.proofs.Common.{◌≡◌, ℕ, ◌+◌, suc, List, ◌∷◌, drop, drop-cons, map, filter_map, sym, ◌∙◌, ap, arith}
 use Rattle.ccr_model.specs.Settling.{time_of, least_of}
 use Rattle.ccr_model.specs.Tasks.{Write}
 use Rattle.ccr_task.specs.Ordering.{earlier}

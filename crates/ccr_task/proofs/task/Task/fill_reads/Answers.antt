@@ -1,4 +1,4 @@
-use Rattle.std.proofs.Common.{◌≡◌, ℕ, true, false, ◌+◌, ◌-◌, suc, ◌∙◌, sym, arith}
+use Rattle.std.proofs.Common.{◌≡◌, true, ◌+◌, ◌-◌, suc, ◌∙◌, sym, arith}
 use Rattle.ccr_task.proofs.Sending.{may_begin, reads-turn, reads-end}
 use Rattle.ccr_task.proofs.task.Task.fill_reads.Goals as goal
 

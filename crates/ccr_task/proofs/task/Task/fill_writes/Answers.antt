@@ -1,4 +1,4 @@
-use Rattle.std.proofs.Common.{◌≡◌, ℕ, ◌+◌, ◌-◌, suc, length, ◌∙◌, ap, arith}
+use Rattle.std.proofs.Common.{◌≡◌, ◌+◌, ◌-◌, suc, length, ◌∙◌, ap, arith}
 use Rattle.ccr_model.specs.Tasks.{Task as Modelled, fill_writes}
 use Rattle.ccr_task.proofs.Sending.{has_some, batches-turn}
 use Rattle.ccr_task.proofs.task.Task.fill_writes.Goals as goal

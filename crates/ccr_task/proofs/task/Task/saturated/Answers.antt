@@ -1,6 +1,6 @@
 use Rattle.std.proofs.Common.{sym, ◌∙◌}
 use Rattle.std.proofs.lemmas.Bool.{both_ways}
-use Rattle.ccr_task.proofs.Saturation.{writes_all, sends_all, reads_all, saturated-by, saturated-writes, saturated-sends, saturated-reads}
+use Rattle.ccr_task.proofs.Saturation.{writes_all, sends_all, saturated-by, saturated-writes, saturated-sends, saturated-reads}
 use Rattle.ccr_task.proofs.task.Task.saturated.Goals as goal
 
 pub returns-then-not-writes_all : goal.returns-then-not-writes_all

@@ -1,4 +1,4 @@
-use Rattle.std.proofs.Common.{◌≡◌, ℕ, ◌+◌, ◌-◌, suc, List, ◌∷◌, ◌++◌, drop, drop-cons, filter, length, min, map, filter_map, sym, ◌∙◌, ap, subst, arith}
+use Rattle.std.proofs.Common.{◌≡◌, ℕ, ◌+◌, suc, List, ◌∷◌, drop, drop-cons, sym, ◌∙◌, ap, arith}
 use Rattle.ccr_model.specs.Tasks.{Read}
 use Rattle.ccr_task.proofs.Sending.{again-turn}
 use Rattle.ccr_task.proofs.task.Task.send_all_again.Goals as goal

@@ -1,0 +1,9 @@
+pub mod Logs
+pub mod Settled
+pub mod Slots
+pub mod Policies
+pub mod Endings
+pub mod Steps
+pub mod Turns
+pub mod Crews
+pub mod Sending
